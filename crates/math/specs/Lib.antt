@@ -1,0 +1,7 @@
+pub mod Basic
+pub mod Words
+pub mod Exp
+pub mod Ln
+pub mod Sqrt
+pub mod Loops
+pub mod Parts
