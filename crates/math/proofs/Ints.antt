@@ -5,15 +5,15 @@ use Prim.Native.Nat.{ℕ, zero, suc, _+_, _-_, _*_, _/_, _%_, _^_, _<_, _≤_}
 use native.Mathlib.Omega.{arith}
 use mathlib.Core.Bool.{Bool, true, false, not, _&&_, cond}
 use lib.IntN.{ℤ, pos, negsuc, _+ℤ_, _-ℤ_, natAbs}
-use lib.Signed.{mag, leZ, nonNeg}
+use lib.Signed.{mag, leZ, ltZ, nonNeg}
 use lib.Dec.{T, ltb, leb, eqb}
 use lib.Ieee.{Float, fin, binary64, lt, le, toSigned, ofInt}
 use lib.Ieee as Ieee
 use lib.Ieee.Casts.{toSigned-in}
-use mir.Syntax.{w64}
+use mir.Syntax.{w32, w64}
 use mir.Val.{Fits, SFits, toZ, ofZ}
 use mir.Facts.{toZ-ofZ, fits-natAbs}
-use borrow.Author.Tests.{lt-ltb, le-ltb, le-leb, lt-leb, leb-true, leb-false, eq-eqb, ne-eqb}
+use borrow.Author.Tests.{lt-ltb, le-ltb, le-leb, lt-leb, ltb-false, leb-true, leb-false, eq-eqb, ne-eqb}
 use Rattle.math.proofs.Basic.{clash, clash'}
 use Rattle.math.specs.Basic.{sub, mul, add, half, one}
 use Rattle.math.specs.Words.{low12, addExp, toInt, withSign, isZero}
@@ -176,3 +176,11 @@ pub normal-is : (x : Float) (b : ℕ) (k kk : ℤ) (y out : Float) → b / 2 ^ 3
     → kk ≡ k +ℤ (pos (b / 2 ^ 52) -ℤ pos 1023) +ℤ pos (halved (b / 2 ^ 32 % 2 ^ 20)) → out ≡ bodyOf (sub y one) (b / 2 ^ 32 % 2 ^ 20) kk → out ≡ normalOf x b k
 unfolding normalOf
 normal-is x b k kk y out h hy hk ho = rw (ho, hy, hk, lt-leb _ _ h)
+
+-- ---- 32 bits
+word-at : (k : ℤ) → ltZ k (negsuc 2147483647) ≡ false → ltZ (pos 2147483647) k ≡ false → SFits w32 k
+word-at (pos n) l u = record { sfits = omega (arith, ltb-false 2147483647 n u) }
+word-at (negsuc n) l u = record { sfits = omega (arith, ltb-false 2147483647 n l) }
+
+pub word-fits : (k z : ℤ) → z ≡ k → ltZ z (negsuc 2147483647) ≡ false → ltZ (pos 2147483647) z ≡ false → SFits w32 z
+word-fits k z e l u = rw e (word-at k (rw e at l) (rw e at u))

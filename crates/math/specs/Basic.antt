@@ -52,7 +52,8 @@ isInfinite (fin s m e) = false
 
 -- the larger: of two equal operands the first, of a NaN and a number the number
 unfoldable pub maxOf : Float → Float → Float
-maxOf a b = cond (isNan a) b (cond (lt a b) b a)
+maxOf a b = cond (lt a b || isNan a) b a
 
+-- the smaller, by the same rule
 unfoldable pub minOf : Float → Float → Float
-minOf a b = cond (isNan a) b (cond (lt b a) b a)
+minOf a b = cond (lt b a || isNan a) b a
