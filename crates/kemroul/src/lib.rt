@@ -1,5 +1,9 @@
 // The C boundary, include/kemroul.h: each function calls the operation and hands its answer on.
+use curves::Answer;
 ghost use mathlib.Core.Path.{_≡_};
+ghost use mathlib.Core.List.{[], _∷_};
+ghost use Rattle.curves.specs.Curve.{curveOf};
+ghost use Rattle.kemroul.specs.Boundary.{handed};
 ghost use Rattle.math.specs.Exp.{expOf};
 ghost use Rattle.math.specs.Ln.{lnOf};
 ghost use Rattle.math.specs.Sqrt.{sqrtOf};
@@ -23,4 +27,33 @@ pub extern "C" fn kemroul_sqrt(x: f64) -> f64
     ensures { λ r. ⌜ r ≡ sqrtOf x ⌝ }
 {
     math::sqrt::sqrt(x)
+}
+
+#[no_mangle]
+pub extern "C" fn kemroul_curve(
+    code: u64,
+    values: &[f64],
+    dose: f64,
+    mu: &mut f64,
+    d0: &mut f64,
+    d1: &mut f64,
+    d2: &mut f64,
+    d3: &mut f64,
+) -> u64
+    ensures { λ r. ⌜
+        handed (curveOf code (now (values .entry)) dose) (now (mu .entry) ∷ now (d0 .entry) ∷ now (d1 .entry) ∷ now (d2 .entry) ∷ now (d3 .entry) ∷ [])
+        ≡ (r, now (mu .exit) ∷ now (d0 .exit) ∷ now (d1 .exit) ∷ now (d2 .exit) ∷ now (d3 .exit) ∷ []) ⌝ }
+{
+    let answer = curves::curve(code, values, dose);
+    match answer {
+        Answer::Refused(n) => n,
+        Answer::Value(m) => {
+            *mu = m.mu;
+            *d0 = m.d0;
+            *d1 = m.d1;
+            *d2 = m.d2;
+            *d3 = m.d3;
+            0
+        }
+    }
 }
