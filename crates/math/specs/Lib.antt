@@ -1,5 +1,6 @@
 pub mod Basic
 pub mod Words
+pub mod Values
 pub mod Exp
 pub mod Ln
 pub mod Sqrt
