@@ -1,60 +1,69 @@
--- How a literal of the code, which is `ofBits binary64 PATTERN`, and a number of a document meet: by computation. Assumes nothing.
-use mathlib.Core.Path.{_≡_, refl}
-use mathlib.Core.Bool.{true, false}
+-- Each constant of the definitions, which is a bit pattern, is the decimal of fdlibm's e_exp.c or e_log.c rounded once: digits / 10 ^ k with a sign. By computation. Assumes nothing.
+use mathlib.Core.Path.{_≡_, sym, ap, _∙_}
+use mathlib.Core.Bool.{Bool, true, false, _&&_}
+use mathlib.Core.List.{List, [], _∷_}
 use Prim.Native.Nat.{ℕ, _^_}
-use lib.IntN.{pos, negsuc}
-use lib.Ieee.{Float, nan, inf, fin, binary64, ofBits, toBits, round, neg}
-use lib.Ieee as Ieee
-use Rattle.math.specs.Basic.{bits, add, mul, div, sub, zero, one, maxOf, minOf, absOf}
-use Rattle.math.specs.Exp.{exp-computes, expOf, huge, twom1000, ln2HI, invln2, P2}
-use Rattle.math.specs.Ln.{ln-computes, lnOf, third, two54}
-use Rattle.math.specs.Sqrt.{sqrt-computes, sqrtOf}
+use lib.Dec.{T, eqb, eqb→eq}
+use lib.Ieee.{Float, binary64, ofBits, toBits, round, fits}
+use lib.Ieee.Bits.{ofBits-toBits}
+use lib.Ieee.Fits.{round-fits, and-l, and-r}
+use Rattle.math.specs.Basic.{bits, zero, half, one, two}
+use Rattle.math.specs.Words.{pattern}
+use Rattle.math.specs.Exp.{huge, twom1000, oThreshold, uThreshold, ln2HI, ln2LO, invln2, P1, P2, P3, P4, P5}
+use Rattle.math.specs.Ln.{two54, third, Lg1, Lg2, Lg3, Lg4, Lg5, Lg6, Lg7}
 
--- 0.3, a decimal of a document, rounded once
-three-tenths : bits 0x3fd3_3333_3333_3333 ≡ round binary64 false 3 10
-unfolding ofBits round
-three-tenths = refl
+abbrev Row : Type 0
+Row = Float × Bool × ℕ × ℕ
 
--- 1e-8 and 1e300
-small : bits 0x3e45_798e_e230_8c3a ≡ round binary64 false 1 (10 ^ 8)
-unfolding ofBits round
-small = refl
+abbrev Rounded : List Row → Type 0
+Rounded [] = Unit
+Rounded ((x, s, d, k) ∷ rows) = (x ≡ round binary64 s d (10 ^ k)) × Rounded rows
 
-huge-is : huge ≡ round binary64 false (10 ^ 300) 1
-unfolding ofBits round
-huge-is = refl
+-- a constant, whether it is negative, the decimal's digits, and the power of ten that divides them
+unfoldable pub literals : List Row
+literals =
+    (zero, false, 0, 0)
+    ∷ (half, false, 5, 1)
+    ∷ (one, false, 1, 0)
+    ∷ (two, false, 2, 0)
+    ∷ (huge, false, 10 ^ 300, 0)
+    ∷ (twom1000, false, 933263618503218878990, 322)
+    ∷ (oThreshold, false, 709782712893383973096, 18)
+    ∷ (uThreshold, true, 745133219101941108420, 18)
+    ∷ (ln2HI, false, 693147180369123816490, 21)
+    ∷ (ln2LO, false, 190821492927058770002, 30)
+    ∷ (invln2, false, 144269504088896338700, 20)
+    ∷ (P1, false, 166666666666666019037, 21)
+    ∷ (P2, true, 277777777770155933842, 23)
+    ∷ (P3, false, 661375632143793436117, 25)
+    ∷ (P4, true, 165339022054652515390, 26)
+    ∷ (P5, false, 413813679705723846039, 28)
+    ∷ (two54, false, 180143985094819840000, 4)
+    ∷ (third, false, 33333333333333333, 17)
+    ∷ (Lg1, false, 6666666666666735130, 19)
+    ∷ (Lg2, false, 3999999999940941908, 19)
+    ∷ (Lg3, false, 2857142874366239149, 19)
+    ∷ (Lg4, false, 2222219843214978396, 19)
+    ∷ (Lg5, false, 1818357216161805012, 19)
+    ∷ (Lg6, false, 1531383769920937332, 19)
+    ∷ (Lg7, false, 1479819860511658591, 19)
+    ∷ []
 
-twom1000-is : twom1000 ≡ fin false 1 (negsuc 999)
-unfolding ofBits
-twom1000-is = refl
+-- the test compares bit patterns, of which a value that fits has one
+unfoldable test : List Row → Bool
+test [] = true
+test ((x, s, d, k) ∷ rows) = fits binary64 x && eqb (pattern x) (pattern (round binary64 s d (10 ^ k))) && test rows
 
--- e_exp.c's decimals: 6.93147180369123816490e-01 and -2.77777777770155933842e-03
-ln2HI-is : ln2HI ≡ round binary64 false 693147180369123816490 (10 ^ 21)
-unfolding ofBits round
-ln2HI-is = refl
+rounded : (rows : List Row) → T (test rows) → Rounded rows
+unfolding test
+rounded [] t = tt
+rounded ((x, s, d, k) ∷ rows) t =
+    let A = fits binary64 x in
+    let y = round binary64 s d (10 ^ k) in
+    let B = eqb (pattern x) (pattern y) in
+    let h : T (A && B) = and-l (A && B) (test rows) t in
+    (sym (ofBits-toBits binary64 x (and-l A B h)) ∙ ap bits (eqb→eq (pattern x) (pattern y) (and-r A B h)) ∙ ofBits-toBits binary64 y (round-fits binary64 s d (10 ^ k)), rounded rows (and-r (A && B) (test rows) t))
 
-P2-is : P2 ≡ round binary64 true 277777777770155933842 (10 ^ 23)
-unfolding ofBits round
-P2-is = refl
-
-third-is : third ≡ round binary64 false 33333333333333333 (10 ^ 17)
-unfolding ofBits round
-third-is = refl
-
--- a quotient: curve 3 at 8, 1, dose 3
-six : div (mul (bits 0x4020_0000_0000_0000) (bits 0x4008_0000_0000_0000)) (add one (bits 0x4008_0000_0000_0000)) ≡ fin false 3 (pos 1)
-unfolding exp-computes
-six = refl
-
--- curve 1 at 200, 5, 350, dose 5: 200 / (1 + exp((5 - 5) / 350))
-abbrev num : ℕ → Float
-num n = round binary64 false n 1
-
-hundred : div (num 200) (add one (expOf (div (sub (num 5) (num 5)) (num 350)))) ≡ num 100
-unfolding exp-computes round
-hundred = refl
-
--- (1 + sqrt 5) / 2
-golden : div (add one (sqrtOf (num 5))) (num 2) ≡ bits 0x3ff9_e377_9b97_f4a8
-unfolding exp-computes sqrt-computes round
-golden = refl
+pub literals-rounded : Rounded literals
+unfolding literals test fits ofBits toBits round
+literals-rounded = rounded literals tt

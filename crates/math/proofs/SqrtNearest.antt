@@ -1,8 +1,8 @@
 -- The square root is correctly rounded: for every positive finite x of binary64, subnormal or not, `sqrtOf x` is a value of binary64, and each other value is farther from the real root of x.
 -- In units of 2 ^ -1074, x is a, the root that is worked out is b, another value is c, and the real root is √(a * 2 ^ 1074). The middle of b and c, (b + c) / 2, lies on c's side of the real root,
 -- and is never equal to it: there is no tie. Squared and times 4, that compares whole numbers. c = 0 is the value 0, and a negative value is farther still. Assumes nothing.
-use mathlib.Core.Path.{_≡_, refl, sym, ap, _∙_, subst}
-use Prim.Native.Nat.{ℕ, zero, suc, _+_, _-_, _*_, _/_, _^_, _<_, _≤_}
+use mathlib.Core.Path.{_≡_, refl}
+use Prim.Native.Nat.{ℕ, suc, _+_, _-_, _*_, _/_, _^_, _<_, _≤_}
 use native.Mathlib.Nat.{mul-pos, lt-of-not-le, le-of-suc-le-suc}
 use native.Mathlib.Omega.{arith}
 use mathlib.Core.Bool.{Bool, true, false, cond}
@@ -10,11 +10,11 @@ use lib.IntN.{negsuc}
 use lib.Dec.{T, ltb, eqb, ltb→lt}
 use lib.Pow.{pow-pos}
 use lib.Ieee.{Float, nan, inf, fin, binary64, fits, up, down, eq, lt, ofBits}
-use lib.Ieee.Bits.{ofBits-toBits, ofBits-fits}
+use lib.Ieee.Bits.{ofBits-fits}
 use lib.Ieee.Fits.{up-pos, mul-fits}
 use lib.Ieee.Positive.{positive, positive-of-value, value-pos}
 use borrow.Author.Tests.{ltb-true, ltb-false, ne-eqb, le-ltb}
-use Rattle.math.specs.Basic.{bits, mul, isFinite}
+use Rattle.math.specs.Basic.{mul, isFinite}
 use Rattle.math.specs.Words.{pattern, addExp}
 use Rattle.math.specs.Ln.{two54}
 use Rattle.math.specs.Values.{Units, Normal}
