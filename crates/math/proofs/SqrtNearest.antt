@@ -1,86 +1,54 @@
 -- The square root is correctly rounded: for every positive finite x of binary64, subnormal or not, `sqrtOf x` is a value of binary64, and each other value is farther from the real root of x.
 -- In units of 2 ^ -1074, x is a, the root that is worked out is b, another value is c, and the real root is √(a * 2 ^ 1074). The middle of b and c, (b + c) / 2, lies on c's side of the real root,
 -- and is never equal to it: there is no tie. Squared and times 4, that compares whole numbers. c = 0 is the value 0, and a negative value is farther still. Assumes nothing.
-use mathlib.Core.Path.{_≡_, refl}
-use Prim.Native.Nat.{ℕ, suc, _+_, _-_, _*_, _/_, _^_, _<_, _≤_}
-use native.Mathlib.Nat.{mul-pos, lt-of-not-le, le-of-suc-le-suc}
+use mathlib.Core.Path.{_≡_}
+use Prim.Native.Nat.{ℕ, _+_, _*_, _^_, _<_}
+use native.Mathlib.Nat.{add-comm, lt-irrefl, lt-trans, lt-of-lt-of-le, mul-pos}
 use native.Mathlib.Omega.{arith}
-use mathlib.Core.Bool.{Bool, true, false, cond}
-use lib.IntN.{negsuc}
-use lib.Dec.{T, ltb, eqb, ltb→lt}
+use lib.Dec.{T}
 use lib.Pow.{pow-pos}
-use lib.Ieee.{Float, nan, inf, fin, binary64, fits, up, down, eq, lt, ofBits}
+use lib.Ieee.{Float, binary64, fits}
 use lib.Ieee.Bits.{ofBits-fits}
-use lib.Ieee.Fits.{up-pos, mul-fits}
-use lib.Ieee.Positive.{positive, positive-of-value, value-pos}
-use borrow.Author.Tests.{ltb-true, ltb-false, ne-eqb, le-ltb}
-use Rattle.math.specs.Basic.{mul, isFinite}
-use Rattle.math.specs.Words.{pattern, addExp}
-use Rattle.math.specs.Ln.{two54}
-use Rattle.math.specs.Values.{Units, Normal}
-use Rattle.math.specs.Sqrt.{sqrtOf, positiveRoot, normalRoot}
-use Rattle.math.proofs.Values.{value, digits, sig, small-units, normal-units, pattern-under, one-value, times54}
-use Rattle.math.proofs.RootValue.{Rooted, rooted, rooted-low, fld, under-root, over-root}
+use lib.Ieee.Positive.{positive}
+use Rattle.math.specs.Values.{Units}
+use Rattle.math.specs.Sqrt.{sqrtOf}
+use Rattle.math.proofs.Values.{value, digits, one-value}
+use Rattle.math.proofs.SqrtCases.{sqrt-case}
+use Rattle.math.proofs.RootValue.{under-root, over-root}
 
 pub record NearestRoot (x r : Float) : Type 0 where
   pub a : ℕ
   pub b : ℕ
   pub x-is : Units x a
   pub r-is : Units r b
+  pub r-positive : 0 < b
   pub r-fits : T (fits binary64 r)
   pub below : (y : Float) (c : ℕ) → T (fits binary64 y) → Units y c → c < b → (b + c) * (b + c) < 4 * (a * 2 ^ 1074)
   pub above : (y : Float) (c : ℕ) → T (fits binary64 y) → Units y c → b < c → 4 * (a * 2 ^ 1074) < (b + c) * (b + c)
 
-nearest-of : (x r : Float) (a k : ℕ) → Units x a → k < 2046 → Rooted a r k → NearestRoot x r
-nearest-of x r a k v h w = record {
-  a = a;
-  b = w .s * 2 ^ k;
-  x-is = v;
-  r-is = rw (w .r-is) (value k (w .s) h (w .low) (w .high));
-  r-fits = rw (w .r-is) (ofBits-fits binary64 (k * 2 ^ 52 + w .s));
-  below = λ y c f u. under-root a k r w c (digits y c f u);
-  above = λ y c f u. over-root a k r w c (digits y c f u);
-}
-
-normal-nearest : (x : Float) → T (fits binary64 x) → Normal x → NearestRoot x (normalRoot (pattern x))
-normal-nearest x f h =
-    nearest-of x (normalRoot (pattern x)) (sig (pattern x) * 2 ^ (pattern x / 2 ^ 52 - 1)) (fld (pattern x) / 2 - 1) (normal-units x f h) (omega (arith, h .1)) (rooted (pattern x) (h .0))
-
--- y, 2 ^ 54 times a subnormal x, is normal
-small-nearest : (x : Float) → T (fits binary64 x) → T (positive x) → pattern x < 2 ^ 52 → NearestRoot x (addExp (normalRoot (pattern (mul x two54))) (negsuc 26))
-small-nearest x f p h =
-    let a = pattern x in
-    let y = mul x two54 in
-    let v : Units x a = small-units x f h in
-    let u : Units y (a * 2 ^ 54) = times54 x a p h v in
-    let g : T (fits binary64 y) = mul-fits binary64 x two54 in
-    let l : 0 < a = value-pos x a (2 ^ 1074) p (pow-pos 1074) v in
-    let low : 2 ^ 52 ≤ pattern y = le-of-suc-le-suc (lt-of-not-le (λ (n : suc (pattern y) ≤ 2 ^ 52). omega (arith, one-value y (pattern y) (a * 2 ^ 54) (small-units y g n) u))) in
-    let high : pattern y < 2047 * 2 ^ 52 = pattern-under y g (positive-of-value y (a * 2 ^ 54) (2 ^ 1074) u (mul-pos l (pow-pos 54))) in
-    let k = fld (pattern y) / 2 - 28 in
-    let same : sig (pattern y) * 2 ^ (pattern y / 2 ^ 52 - 1) ≡ a * 2 ^ 54 = one-value y (sig (pattern y) * 2 ^ (pattern y / 2 ^ 52 - 1)) (a * 2 ^ 54) (normal-units y g (low, high)) u in
-    let k-is : fld (pattern y) / 2 - 1 ≡ k + 27 = omega arith in
-    let w : Rooted (a * 2 ^ 54) (normalRoot (pattern y)) (k + 27) = rw (same, k-is) at (rooted (pattern y) low) in
-    nearest-of x (addExp (normalRoot (pattern y)) (negsuc 26)) a k v (omega arith) (rooted-low a (normalRoot (pattern y)) k w (omega arith))
-
-positive-nearest : (x : Float) → T (fits binary64 x) → T (positive x) → NearestRoot x (positiveRoot x)
-unfolding positiveRoot
-positive-nearest x f p = go (ltb (pattern x) (2 ^ 52)) refl
-  where
-    go : (b : Bool) → ltb (pattern x) (2 ^ 52) ≡ b → NearestRoot x (cond b (addExp (normalRoot (pattern (mul x two54))) (negsuc 26)) (normalRoot (pattern x)))
-    go true e = small-nearest x f p (ltb-true (pattern x) (2 ^ 52) e)
-    go false e = normal-nearest x f (ltb-false (pattern x) (2 ^ 52) e, pattern-under x f p)
-
-sqrt-is : (x : Float) → T (positive x) → sqrtOf x ≡ positiveRoot x
-unfolding sqrtOf isFinite eq lt ofBits
-sqrt-is nan p = absurd p
-sqrt-is (inf s) p = absurd p
-sqrt-is (fin true m e) p = absurd p
-sqrt-is (fin false m e) p =
-    let h : 0 < m * up e = mul-pos (ltb→lt 0 m p) (up-pos e) in
-    let z : eqb (m * up e * 1) (0 * 1 * down e) ≡ false = ne-eqb (m * up e * 1) (0 * 1 * down e) (λ i. omega arith) in
-    let n : ltb (m * up e * 1) (0 * 1 * down e) ≡ false = le-ltb (m * up e * 1) (0 * 1 * down e) (omega arith) in
-    rw (z, n)
-
 pub sqrt-nearest : (x : Float) → T (fits binary64 x) → T (positive x) → NearestRoot x (sqrtOf x)
-sqrt-nearest x f p = rw (sqrt-is x p) (positive-nearest x f p)
+sqrt-nearest x f p =
+    let c = sqrt-case x f p in
+    let w = c .root in
+    record {
+      a = c .a;
+      b = w .s * 2 ^ c .k;
+      x-is = c .x-is;
+      r-is = rw (w .r-is) (value (c .k) (w .s) (c .room) (w .low) (w .high));
+      r-positive = mul-pos (lt-of-lt-of-le (pow-pos 52) (w .low)) (pow-pos (c .k));
+      r-fits = rw (w .r-is) (ofBits-fits binary64 (c .k * 2 ^ 52 + w .s));
+      below = λ y d g u. under-root (c .a) (c .k) (sqrtOf x) w d (digits y d g u);
+      above = λ y d g u. over-root (c .a) (c .k) (sqrtOf x) w d (digits y d g u);
+    }
+
+-- so the statement says which float the root is: two that are nearest are one number
+module _ (x : Float) where
+  not-below : (r r' : Float) (n : NearestRoot x r) (n' : NearestRoot x r') → n .b < n' .b → ⊥
+  not-below r r' n n' h =
+      let e : n .a ≡ n' .a = one-value x (n .a) (n' .a) (n .x-is) (n' .x-is) in
+      let up : 4 * (n .a * 2 ^ 1074) < (n .b + n' .b) * (n .b + n' .b) = n .above r' (n' .b) (n' .r-fits) (n' .r-is) h in
+      let down : (n' .b + n .b) * (n' .b + n .b) < 4 * (n' .a * 2 ^ 1074) = n' .below r (n .b) (n .r-fits) (n .r-is) h in
+      lt-irrefl (4 * (n' .a * 2 ^ 1074)) (lt-trans (rw (e, add-comm (n .b) (n' .b)) at up) down)
+
+  pub nearest-one : (r r' : Float) (n : NearestRoot x r) (n' : NearestRoot x r') → n .b ≡ n' .b
+  nearest-one r r' n n' = omega (arith, not-below r r' n n', not-below r' r n' n)
