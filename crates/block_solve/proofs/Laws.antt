@@ -1,0 +1,88 @@
+-- A group's effects written into their part of the list, the test of every component, and the finished direction by what its parts answered. Assumes nothing.
+use Prim.Native.Nat.{ℕ, zero, suc, _+_, _*_, _-_, _≤_, _<_}
+use mathlib.Core.Path.{_≡_, refl, sym, ap, _∙_}
+use mathlib.Core.Bool.{Bool, true, false, cond, _&&_}
+use mathlib.Core.List.{List, [], _∷_, _++_, append-assoc}
+use mathlib.Core.Option.{Option, none, some}
+use native.Mathlib.Numerals.{add-one}
+use native.Mathlib.Nat.{suc-mul}
+use native.Mathlib.Omega.{arith}
+use borrow.Author.Tests.{eqb-true, eqb-false}
+use lib.Dec.{eqb}
+use lib.Ieee.{Float, nan}
+use lib.ListN.{length, take, drop, set, getD, length-append, length-take}
+use lib.Seq.{take-at, take-suc, take-suc-set, drop-cons, drop-length}
+use Rattle.math.specs.Loops.{pick-true, pick-false}
+use Rattle.math.specs.Parts.{part, put, part-length}
+use Rattle.linalg.specs.declared.elimination.Solution.{Solution}
+use Rattle.linalg.specs.Elimination.{solveOf}
+use Rattle.block_solve.specs.declared.normal.BlockNormal.{BlockNormal}
+use Rattle.block_solve.specs.declared.direction.Eliminated.{Eliminated}
+use Rattle.block_solve.specs.Direction.{effectsOf, every, eliminatedOf, finishedOf, componentsOf}
+
+-- ---- a part's one or two effects
+
+pub write-one : (l : List Float) (x : Float) → length l ≡ 1 → set l 0 x ≡ x ∷ []
+write-one [] x h = absurd (omega (arith, h))
+write-one (a ∷ []) x h = refl
+write-one (a ∷ b ∷ l) x h = absurd (omega (arith, h))
+
+pub write-two : (l : List Float) (x y : Float) → length l ≡ 2 → set (set l 0 x) 1 y ≡ x ∷ y ∷ []
+write-two [] x y h = absurd (omega (arith, h))
+write-two (a ∷ []) x y h = absurd (omega (arith, h))
+write-two (a ∷ b ∷ []) x y h = refl
+write-two (a ∷ b ∷ c ∷ l) x y h = absurd (omega (arith, h))
+
+by-test : (t : Bool) (k : ℕ) (x y : Float) → (t ≡ true → k ≡ 2) → (t ≡ false → k ≡ 1) → length (cond t (x ∷ y ∷ []) (x ∷ [])) ≡ k
+by-test true k x y p q = sym (p refl)
+by-test false k x y p q = sym (q refl)
+
+pub effects-length : (k : ℕ) (x y : Float) → 1 ≤ k → k ≤ 2 → length (effectsOf k x y) ≡ k
+unfolding effectsOf
+effects-length k x y p q = by-test (eqb k 2) k x y (eqb-true k 2) (λ t. let n = eqb-false k 2 t in omega arith)
+
+-- a part written leaves what stood before it, and then itself
+take-put : (a k : ℕ) (l ys : List Float) → a + k ≤ length l → length ys ≡ k → take (a + k) (put a k l ys) ≡ take a l ++ ys
+take-put a k l ys p e =
+    let n : length (take a l ++ ys) ≡ a + k = rw (length-append, length-take) (omega arith) in
+    rw (← append-assoc (take a l) ys (drop k (drop a l))) (take-at (take a l ++ ys) (drop k (drop a l)) (a + k) n)
+
+pub effects-put : (k m a : ℕ) (l z : List Float) (x y : Float) → 1 ≤ k → k ≤ 2 → m ≡ k → a + k ≤ length l → z ≡ effectsOf (length (part a m l)) x y
+    → take (a + k) (put a m l z) ≡ take a l ++ effectsOf k x y
+effects-put k m a l z x y o u e p h =
+    let n : length (part a m l) ≡ k = part-length a m l (omega arith) ∙ e in
+    let w : z ≡ effectsOf k x y = rw n at h in
+    rw (e, w) (take-put a k l (effectsOf k x y) p (effects-length k x y o u))
+
+pub next-group : (p g k : ℕ) → p + (g + 1) * k ≡ p + g * k + k
+next-group p g k = rw (add-one g, suc-mul g k) (omega arith)
+
+pub take-next : (l x : List Float) (i : ℕ) → i < length l → i < length x → take i l ≡ take i x → take (i + 1) (set l i (getD x i nan)) ≡ take (i + 1) x
+take-next l x i p q h = rw add-one (take-suc-set l i (getD x i nan) p ∙ ap (λ r. r ++ (getD x i nan ∷ [])) h ∙ sym (take-suc x i nan q))
+
+-- ---- every element from place i on
+
+module _ (t : Float → Bool) (l : List Float) (i : ℕ) where
+  pub every-stop : i < length l → t (getD l i nan) ≡ false → every t (drop i l) ≡ false
+  unfolding every
+  every-stop p h = rw (drop-cons l i nan p, h) refl
+
+  pub every-go : i < length l → t (getD l i nan) ≡ true → every t (drop i l) ≡ every t (drop (i + 1) l)
+  unfolding every
+  every-go p h = rw (drop-cons l i nan p, h, add-one i) refl
+
+-- ---- the finished direction
+
+module _ (n : BlockNormal) (p k groups : ℕ) (t : Float) (e : Eliminated) (h : e ≡ eliminatedOf n p k groups t) where
+  pub finished-none : e .found ≡ false → finishedOf n p k groups t ≡ none
+  unfolding finishedOf
+  finished-none f = rw (← h, f)
+
+  pub finished-singular : (o : Solution) → o ≡ solveOf p (e .s) → e .found ≡ true → o .found ≡ false → finishedOf n p k groups t ≡ none
+  unfolding finishedOf
+  finished-singular o q f u = rw (← h, f, ← q, u)
+
+  pub finished-solved : (o : Solution) → o ≡ solveOf p (e .s) → e .found ≡ true → o .found ≡ true
+      → finishedOf n p k groups t ≡ some (componentsOf p k groups (o .x) (e .v) (e .w))
+  unfolding finishedOf
+  finished-solved o q f u = rw (← h, f, ← q, u)

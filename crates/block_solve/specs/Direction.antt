@@ -1,0 +1,232 @@
+-- The direction (`BlockNormal::solve`, document 01's 'The direction'): each group's damped block is solved, the damped fixed system is reduced by it and solved, and each group's effects follow.
+use Prim.Native.Nat.{ℕ, _+_, _*_, _-_, _<_, _≤_}
+use mathlib.Core.Path.{_≡_, refl}
+use mathlib.Core.Bool.{Bool, true, false, cond, not, _&&_}
+use mathlib.Core.List.{List, [], _∷_, _++_}
+use mathlib.Core.Option.{Option, none, some}
+use borrow.Author.Tests.{le-leb, eq-eqb}
+use lib.Dec.{eqb, leb}
+use lib.Ieee.{Float, nan}
+use lib.ListN.{getD, set, replicate, take}
+use Rattle.math.specs.Basic.{add, sub, mul, zero, bits, maxOf, isFinite}
+use Rattle.math.specs.Loops.{span, until, until-stop, until-go, until-done}
+use Rattle.linalg.specs.declared.elimination.System.{System}
+use Rattle.linalg.specs.declared.elimination.Solution.{Solution}
+use Rattle.linalg.specs.declared.pair.Solved.{Solved}
+use Rattle.linalg.specs.Elimination.{solveOf}
+use Rattle.linalg.specs.Pair.{pairOf, first, second, isNone}
+use Rattle.block_solve.specs.declared.normal.BlockNormal.{BlockNormal}
+use Rattle.block_solve.specs.declared.direction.Columns.{Columns}
+use Rattle.block_solve.specs.declared.direction.Eliminated.{Eliminated}
+
+-- ---- damping
+
+-- 1e-8, below which no diagonal entry is damped by less
+abbrev pub floor : Float
+floor = bits 0x3e45_798e_e230_8c3a
+
+-- a diagonal entry x, damped by a share of itself
+abbrev pub dampedAt : Float → Float → Float
+dampedAt damping x = add x (mul damping (maxOf x floor))
+
+unfoldable pub dampedBlock : List Float → ℕ → Float → List (List Float)
+dampedBlock random g t =
+    (dampedAt t (getD random (g * 4) nan) ∷ getD random (g * 4 + 1) nan ∷ [])
+    ∷ (getD random (g * 4 + 2) nan ∷ dampedAt t (getD random (g * 4 + 3) nan) ∷ [])
+    ∷ []
+
+abbrev pub diagonalAt : List Float → Float → ℕ → List Float → List Float
+diagonalAt f t i a = set a (i * 4 + i) (dampedAt t (getD f (i * 4 + i) nan))
+
+unfoldable pub dampedFixed : BlockNormal → ℕ → Float → System
+dampedFixed n p t = record { a = span (diagonalAt (n .fixed) t) 0 p (n .fixed); b = n .«fixed_rhs» }
+
+-- ---- one group
+
+-- a row of k numbers times a column, from 0 on
+unfoldable pub dotOf : ℕ → Float → Float → Float → Float → Float
+dotOf k a b x y = cond (eqb k 1) (add zero (mul a x)) (add (add zero (mul a x)) (mul b y))
+
+-- w: the group's block c solved for each row of its cross block
+module _ (k : ℕ) (c : List (List Float)) (cross : List Float) (g p : ℕ) where
+  abbrev pub columnOf : ℕ → Solved
+  columnOf j = pairOf k c (getD cross (g * 8 + j * 2) nan) (getD cross (g * 8 + j * 2 + 1) nan)
+
+  abbrev pub noColumn : ℕ → List Float → Bool
+  noColumn j w = isNone (columnOf j)
+
+  abbrev pub noColumns : ℕ → List Float → Columns
+  noColumns j w = record { found = false; w = replicate 8 zero }
+
+  abbrev pub stored : ℕ → List Float → List Float
+  stored j w = set (set w (j * 2) (first (columnOf j))) (j * 2 + 1) (second (columnOf j))
+
+  abbrev pub allColumns : List Float → Columns
+  allColumns w = record { found = true; w = w }
+
+  unfoldable pub columnsFrom : ℕ → List Float → Columns
+  columnsFrom j w = until noColumn noColumns stored allColumns (p - j) j w
+
+-- the fixed system less cross times w, and its right-hand side less cross times (x, y)
+module _ (k : ℕ) (cross : List Float) (g p : ℕ) (x y : Float) (w : List Float) where
+  abbrev pub crossTimes : ℕ → Float → Float → Float
+  crossTimes i u v = dotOf k (getD cross (g * 8 + i * 2) nan) (getD cross (g * 8 + i * 2 + 1) nan) u v
+
+  abbrev pub reduceAt : ℕ → ℕ → List Float → List Float
+  reduceAt i j a = set a (i * 4 + j) (sub (getD a (i * 4 + j) nan) (crossTimes i (getD w (j * 2) nan) (getD w (j * 2 + 1) nan)))
+
+  abbrev pub reduceRow : ℕ → System → System
+  reduceRow i s = record { a = span (reduceAt i) 0 p (s .a); b = set (s .b) i (sub (getD (s .b) i nan) (crossTimes i x y)) }
+
+  unfoldable pub reduceBy : System → System
+  reduceBy s = span reduceRow 0 p s
+
+-- ---- all groups, in order
+
+-- a group's eight places
+abbrev pub storeAt : ℕ → List Float → ℕ → List Float → List Float
+storeAt g x i w = set w (g * 8 + i) (getD x i nan)
+
+unfoldable pub storeColumns : ℕ → List Float → List Float → List Float
+storeColumns g x w = span (storeAt g x) 0 8 w
+
+module _ (random cross rhs : List Float) (p k groups : ℕ) (t : Float) where
+  abbrev pub pairAt : ℕ → Solved
+  pairAt g = pairOf k (dampedBlock random g t) (getD rhs (g * 2) nan) (getD rhs (g * 2 + 1) nan)
+
+  abbrev pub columnsAt : ℕ → Columns
+  columnsAt g = columnsFrom k (dampedBlock random g t) cross g p 0 (replicate 8 zero)
+
+  -- a zero pivot in the group's block
+  abbrev pub noGroup : ℕ → Eliminated → Bool
+  noGroup g e = cond (isNone (pairAt g)) true (not (columnsAt g .found))
+
+  abbrev pub stoppedAt : ℕ → Eliminated → Eliminated
+  stoppedAt g e = record { found = false; s = e .s; v = e .v; w = e .w }
+
+  abbrev pub groupStep : ℕ → Eliminated → Eliminated
+  groupStep g e =
+      record {
+        found = true;
+        s = reduceBy k cross g p (first (pairAt g)) (second (pairAt g)) (columnsAt g .w) (e .s);
+        v = set (set (e .v) (g * 2) (first (pairAt g))) (g * 2 + 1) (second (pairAt g));
+        w = storeColumns g (columnsAt g .w) (e .w);
+      }
+
+  unfoldable pub groupsFrom : ℕ → Eliminated → Eliminated
+  groupsFrom g e = until noGroup stoppedAt groupStep (λ e. e) (groups - g) g e
+
+-- the state before group 0, from the system s
+abbrev pub untouched : System → Eliminated
+untouched s = record { found = true; s = s; v = replicate 64 zero; w = replicate 256 zero }
+
+unfoldable pub eliminatedOf : BlockNormal → ℕ → ℕ → ℕ → Float → Eliminated
+eliminatedOf n p k groups t = groupsFrom (n .random) (n .cross) (n .«random_rhs») p k groups t 0 (untouched (dampedFixed n p t))
+
+-- ---- the direction as a list: the p fixed values, then each group's effects
+
+-- row l of the group's columns times the fixed values, from 0 on
+abbrev pub columnsTimesAt : List Float → List Float → ℕ → ℕ → ℕ → Float → Float
+columnsTimesAt w x g l j t = add t (mul (getD w (g * 8 + j * 2 + l) nan) (getD x j nan))
+
+unfoldable pub columnsTimes : List Float → List Float → ℕ → ℕ → ℕ → Float
+columnsTimes w x g l p = span (columnsTimesAt w x g l) 0 p zero
+
+-- effect l of group g: v - w x
+abbrev pub effectAt : ℕ → List Float → List Float → List Float → ℕ → ℕ → Float
+effectAt p x v w g l = sub (getD v (g * 2 + l) nan) (columnsTimes w x g l p)
+
+unfoldable pub effectsOf : ℕ → Float → Float → List Float
+effectsOf k x y = cond (eqb k 2) (x ∷ y ∷ []) (x ∷ [])
+
+abbrev pub appendGroup : ℕ → ℕ → List Float → List Float → List Float → ℕ → List Float → List Float
+appendGroup p k x v w g l = l ++ effectsOf k (sub (getD v (g * 2) nan) (columnsTimes w x g 0 p)) (sub (getD v (g * 2 + 1) nan) (columnsTimes w x g 1 p))
+
+unfoldable pub componentsOf : ℕ → ℕ → ℕ → List Float → List Float → List Float → List Float
+componentsOf p k groups x v w = span (appendGroup p k x v w) 0 groups (take p x)
+
+abbrev pub afterSolve : ℕ → ℕ → ℕ → Eliminated → Solution → Option (List Float)
+afterSolve p k groups e o = cond (o .found) (some (componentsOf p k groups (o .x) (e .v) (e .w))) none
+
+abbrev pub afterGroups : ℕ → ℕ → ℕ → Eliminated → Option (List Float)
+afterGroups p k groups e = cond (e .found) (afterSolve p k groups e (solveOf p (e .s))) none
+
+-- the finished direction, none at an exactly zero pivot anywhere
+unfoldable pub finishedOf : BlockNormal → ℕ → ℕ → ℕ → Float → Option (List Float)
+finishedOf n p k groups t = afterGroups p k groups (eliminatedOf n p k groups t)
+
+-- each element passes the test
+unfoldable pub every : {A : Type 0} → (A → Bool) → List A → Bool
+every t [] = true
+every t (x ∷ xs) = t x && every t xs
+
+-- the direction: none also where a component of the finished one is not finite
+abbrev pub finiteOnly : Option (List Float) → Option (List Float)
+finiteOnly none = none
+finiteOnly (some l) = cond (every isFinite l) (some l) none
+
+unfoldable pub directionOf : BlockNormal → ℕ → ℕ → ℕ → Float → Option (List Float)
+directionOf n p k groups t = finiteOnly (finishedOf n p k groups t)
+
+-- ---- what `solve` answers and leaves in the list that it is lent
+
+-- the sizes that there is a place for, with a list of just the direction's length
+abbrev pub fitting : ℕ → ℕ → ℕ → ℕ → Bool
+fitting p k groups size = leb p 4 && leb 1 k && leb k 2 && leb groups 32 && eqb size (p + groups * k)
+
+unfoldable pub solvedOf : BlockNormal → ℕ → ℕ → ℕ → Float → ℕ → Option (List Float)
+solvedOf n p k groups t size = cond (fitting p k groups size) (finishedOf n p k groups t) none
+
+abbrev pub isDirection : Option (List Float) → Bool
+isDirection none = false
+isDirection (some l) = every isFinite l
+
+abbrev pub leftIn : Option (List Float) → List Float → List Float
+leftIn none out = out
+leftIn (some l) out = l
+
+module _ (n : BlockNormal) (p k groups : ℕ) (t : Float) (size : ℕ) where
+  pub solve-refuses : fitting p k groups size ≡ false → solvedOf n p k groups t size ≡ none
+  unfolding solvedOf
+  solve-refuses h = rw h refl
+
+  pub solve-fits : p ≤ 4 → 1 ≤ k → k ≤ 2 → groups ≤ 32 → size ≡ p + groups * k → solvedOf n p k groups t size ≡ finishedOf n p k groups t
+  unfolding solvedOf
+  solve-fits a b c d e = rw (le-leb p 4 a, le-leb 1 k b, le-leb k 2 c, le-leb groups 32 d, eq-eqb size (p + groups * k) e) refl
+
+-- ---- the laws of the loops that may stop
+
+module _ (k : ℕ) (c : List (List Float)) (cross : List Float) (g p : ℕ) where
+  pub columns-stop : (j : ℕ) (w : List Float) → j < p → noColumn k c cross g p j w ≡ true → columnsFrom k c cross g p j w ≡ noColumns k c cross g p j w
+  unfolding columnsFrom
+  columns-stop j w = until-stop (noColumn k c cross g p) (noColumns k c cross g p) (stored k c cross g p) (allColumns k c cross g p) p j w
+
+  pub columns-go : (j : ℕ) (w : List Float) → j < p → noColumn k c cross g p j w ≡ false → columnsFrom k c cross g p j w ≡ columnsFrom k c cross g p (j + 1) (stored k c cross g p j w)
+  unfolding columnsFrom
+  columns-go j w = until-go (noColumn k c cross g p) (noColumns k c cross g p) (stored k c cross g p) (allColumns k c cross g p) p j w
+
+  pub columns-done : (j : ℕ) (w : List Float) → p ≤ j → columnsFrom k c cross g p j w ≡ allColumns k c cross g p w
+  unfolding columnsFrom
+  columns-done j w = until-done (noColumn k c cross g p) (noColumns k c cross g p) (stored k c cross g p) (allColumns k c cross g p) p j w
+
+module _ (random cross rhs : List Float) (p k groups : ℕ) (t : Float) where
+  abbrev none-at : ℕ → Eliminated → Bool
+  none-at = noGroup random cross rhs p k groups t
+
+  abbrev stop-at : ℕ → Eliminated → Eliminated
+  stop-at = stoppedAt random cross rhs p k groups t
+
+  abbrev step-at : ℕ → Eliminated → Eliminated
+  step-at = groupStep random cross rhs p k groups t
+
+  pub groups-stop : (g : ℕ) (e : Eliminated) → g < groups → none-at g e ≡ true → groupsFrom random cross rhs p k groups t g e ≡ stop-at g e
+  unfolding groupsFrom
+  groups-stop g e = until-stop none-at stop-at step-at (λ e. e) groups g e
+
+  pub groups-go : (g : ℕ) (e : Eliminated) → g < groups → none-at g e ≡ false → groupsFrom random cross rhs p k groups t g e ≡ groupsFrom random cross rhs p k groups t (g + 1) (step-at g e)
+  unfolding groupsFrom
+  groups-go g e = until-go none-at stop-at step-at (λ e. e) groups g e
+
+  pub groups-done : (g : ℕ) (e : Eliminated) → groups ≤ g → groupsFrom random cross rhs p k groups t g e ≡ e
+  unfolding groupsFrom
+  groups-done g e = until-done none-at stop-at step-at (λ e. e) groups g e

@@ -1,0 +1,3 @@
+// block_solve.rs: the normal blocks of a fit, and the damped direction that they give.
+pub mod direction;
+pub mod normal;
