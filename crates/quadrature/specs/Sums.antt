@@ -1,28 +1,26 @@
--- The logarithm of a sum of exponentials, worked out about the largest term. Definitions only.
+-- The logarithm of a sum of exponentials, log_sum_exp of quadrature.rs. Definitions only.
 use mathlib.Core.Bool.{true, cond}
-use mathlib.Core.List.{List, [], _∷_}
+use mathlib.Core.List.{List, foldl}
+use lib.Dec.{eqb}
+use lib.ListN.{length}
 use lib.Ieee.{Float, inf}
 use Rattle.math.specs.Basic.{add, sub, zero, maxOf, isFinite}
 use Rattle.math.specs.Exp.{expOf}
 use Rattle.math.specs.Ln.{lnOf}
 
--- f from the left, over the list
-unfoldable pub fold : (Float → Float → Float) → Float → List Float → Float
-fold f a [] = a
-fold f a (x ∷ xs) = fold f (f a x) xs
+-- m, xs.iter().copied().fold(f64::NEG_INFINITY, f64::max): a NaN is passed over
+abbrev pub maximumOf : List Float → Float
+maximumOf xs = foldl maxOf (inf true) xs
 
--- the largest term, a NaN passed over
-abbrev pub largestOf : List Float → Float
-largestOf xs = fold maxOf (inf true) xs
-
+-- xs.iter().map(|&x| (x - m).exp()).sum(): from 0, in the list's order
 abbrev pub addExp : Float → Float → Float → Float
 addExp m s x = add s (expOf (sub x m))
 
-abbrev pub shiftedOf : Float → List Float → Float
-shiftedOf m xs = fold (addExp m) zero xs
+abbrev pub sumExpOf : Float → List Float → Float
+sumExpOf m xs = foldl (addExp m) zero xs
 
--- -infinity where the largest term is not finite, which it is not of no terms
+-- -infinity of no terms, and where m is not finite
 unfoldable pub logSumExp : List Float → Float
 logSumExp xs =
-    let m = largestOf xs in
-    cond (isFinite m) (add m (lnOf (shiftedOf m xs))) (inf true)
+    let m = maximumOf xs in
+    cond (eqb (length xs) 0) (inf true) (cond (isFinite m) (add m (lnOf (sumExpOf m xs))) (inf true))
