@@ -1,9 +1,9 @@
 -- Laws of specs/Orders.antt, and the rows of document 01. Assumes nothing.
-use mathlib.Core.Path.{_≡_, refl, ap, subst}
+use mathlib.Core.Path.{_≡_, refl, sym, ap, subst, _∙_}
 use mathlib.Core.Bool.{Bool, true, false, cond}
 use mathlib.Core.List.{[], _∷_, map}
 use Prim.Native.Nat.{ℕ, zero, suc, _+_, _-_, _*_, _^_, _≤_, _<_}
-use native.Mathlib.Nat.{pow-suc, pow-le-pow-left, pow-le-pow-right}
+use native.Mathlib.Nat.{pow-suc, pow-le-pow-left, pow-le-pow-right, mul-le-mul}
 use native.Mathlib.Numerals.{add-one}
 use native.Mathlib.Omega.{arith}
 use lib.Dec.{T, leb}
@@ -12,6 +12,7 @@ use Rattle.quadrature.specs.declared.orders.Order.{Order}
 use Rattle.quadrature.specs.declared.orders.Order.the-variants.{None, Points}
 use Rattle.quadrature.specs.Orders.{orders, tooFew, firstFrom, orderOf, oneOf, maxPoints, capped, cappedOrder, productOf}
 
+-- the last of SUPPORTED and what comes above it are both 11
 pub same : {A : Type 0} (b : Bool) (x : A) → cond b x x ≡ x
 same true x = refl
 same false x = refl
@@ -98,6 +99,10 @@ cap-idle (suc (suc (suc k))) p q n o e = absurd (omega arith)
 
 pub product-is-order : (n k : ℕ) → 1 ≤ k → k ≤ 2 → productOf n k ≡ orderOf n
 product-is-order n k p q = cap-idle k p q n (orderOf n) refl
+
+-- so a product of two has no more than 121 points
+pub product-points : (n o : ℕ) → productOf n 2 ≡ Points o → o * o ≤ 121
+product-points n o e = let r = order-range n o (sym (product-is-order n 2 (omega arith) (omega arith)) ∙ e) in mul-le-mul (r .1) (r .1)
 
 -- ---- the rows of document 01: 1 none, 2: 3, 11: 11, 12: 11; and 11 of 0 to 6 effects, where the cap lowers it from three on
 pub order-rows : map orderOf (0 ∷ 1 ∷ 2 ∷ 3 ∷ 4 ∷ 11 ∷ 12 ∷ []) ≡ None ∷ None ∷ Points 3 ∷ Points 3 ∷ Points 5 ∷ Points 11 ∷ Points 11 ∷ []

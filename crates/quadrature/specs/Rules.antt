@@ -1,5 +1,5 @@
 -- The tables of quadrature.rs by its decimals, and gh_rule. Definitions only.
-use mathlib.Core.Bool.{true, false, cond}
+use mathlib.Core.Bool.{false, cond}
 use mathlib.Core.List.{List, [], _∷_, _++_, map, reverse}
 use Prim.Native.Nat.{ℕ, _^_}
 use lib.Dec.{eqb}

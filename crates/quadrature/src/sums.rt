@@ -38,5 +38,5 @@ pub fn log_sum_exp(xs: &[f64]) -> f64
     if math::is_finite(m) {
         return m + math::ln::ln(sum_exp(xs, m));
     }
-    -math::infinity()
+    -math::infinity() // an infinite term, or NaNs alone
 }

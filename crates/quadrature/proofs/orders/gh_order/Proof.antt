@@ -1,4 +1,4 @@
-use mathlib.Core.Path.{_≡_, sym, ap, _∙_}
+use mathlib.Core.Path.{sym, ap, _∙_}
 use Rattle.quadrature.specs.Orders.{orZero}
 use borrow.Author.Needs.{needs}
 use Rattle.quadrature.proofs.orders.gh_order.Statement.{statement}

@@ -1,3 +1,4 @@
+-- What is left to try from ord gives what all gives from base: ord is left out only where its power is above 400. Assumes nothing.
 use mathlib.Core.Path.{_≡_, sym, _∙_}
 use Prim.Native.Nat.{_≤_}
 use native.Mathlib.Omega.{arith}

@@ -1,3 +1,4 @@
+-- In each arm the order is known, so the definition's list computes to the decimals of the code's table, rounded. Assumes nothing.
 use lib.Ieee.{div, ofBits, round, neg}
 use borrow.Author.Tests.{ne-eqb}
 use Rattle.quadrature.specs.Rules.{nodesOf, weightsOf, z3, z5, z7, z9, z11, w3, w5, w7, w9, w11}

@@ -1,3 +1,4 @@
+-- The definition makes the code's three tests. Assumes nothing.
 use lib.Ieee.{neg}
 use borrow.Author.Tests.{eq-eqb, ne-eqb}
 use Rattle.quadrature.specs.Sums.{logSumExp}
