@@ -1,0 +1,2 @@
+pub mod ReCov
+pub mod Rows
