@@ -3,6 +3,7 @@ use curves::Answer;
 ghost use mathlib.Core.Path.{_≡_};
 ghost use mathlib.Core.List.{[], _∷_};
 ghost use Rattle.curves.specs.Curve.{curveOf};
+ghost use Rattle.quadrature.specs.Orders.{orderOrZero};
 ghost use Rattle.kemroul.specs.Boundary.{handed};
 ghost use Rattle.math.specs.Exp.{expOf};
 ghost use Rattle.math.specs.Ln.{lnOf};
@@ -27,6 +28,13 @@ pub extern "C" fn kemroul_sqrt(x: f64) -> f64
     ensures { λ r. ⌜ r ≡ sqrtOf x ⌝ }
 {
     math::sqrt::sqrt(x)
+}
+
+#[no_mangle]
+pub extern "C" fn kemroul_gh_order(asked: u64) -> u64
+    ensures { λ r. ⌜ r ≡ orderOrZero asked ⌝ }
+{
+    quadrature::orders::gh_order(asked)
 }
 
 #[no_mangle]
