@@ -3,6 +3,7 @@
 #
 #   make differential    builds the archive, the oracle and the driver, and compares them
 #   make oracle          builds the oracle, the generator and the comparing programs
+#   make oracle-test     tests the oracle itself by answers that were known before it
 #   make strictmath      compares the oracle's exp, ln and sqrt with Java's StrictMath
 #   make distance        how far the unreplaced Rust (std's exp, ln, max, min; LAPACK) lies from the replaced one
 #   make sample          writes SAMPLE answered lines of OP to OUT
@@ -28,13 +29,16 @@ SAMPLE ?= 200
 LONGEST ?= 4000
 OUT ?= target/sample-$(OP).txt
 
-.PHONY: differential oracle copy archive driver strictmath distance sample
+.PHONY: differential compare oracle oracle-test copy archive driver strictmath distance sample
 
 copy:
 	@python3 oracle/copy_source.py $(SOURCE) oracle/target/copy
 
 oracle: copy
 	@cd oracle && $(CARGO)
+
+oracle-test: copy
+	@cd oracle && cargo test -j2 --offline --quiet -p fdlibm -p linalg-plain -p replaced
 
 archive:
 	$(RT) staticlib kemroul
@@ -48,7 +52,6 @@ differential: archive
 	@$(MAKE) --no-print-directory compare
 
 # As `differential`, with the archive as it stands.
-.PHONY: compare
 compare: driver
 	@echo "seed $(SEED), operations: $(OPS)"
 	@$(BIN)/compare "$(BIN)/gen $(SEED) $(LINES) $(OPS)" $(BIN)/oracle $(BIN)/driver

@@ -33,8 +33,7 @@ fn problem(p: &Problem) -> (NlmmProblem, NlmmStart) {
 
 pub fn fit(p: &Problem, theta: &[f64], max_rounds: u64) -> Answer {
     let (problem, start) = problem(p);
-    let (values, b, rss, converged, rounds) =
-        problem.inner_gauss_newton_status(theta, &start, max_rounds as usize);
+    let (values, b, rss, converged, rounds) = problem.inner_gauss_newton_status(theta, &start, max_rounds as usize);
     Answer::Fit {
         number: 0,
         values,

@@ -49,9 +49,14 @@ fn main() {
     for (operation, (agreed, compared)) in &counts {
         println!("{operation}: {agreed} of {compared} lines agree");
     }
-    println!("{agreed} of {compared} lines agree, in {:.1} s", begun.elapsed().as_secs_f64());
+    println!(
+        "{agreed} of {compared} lines agree, in {:.1} s",
+        begun.elapsed().as_secs_f64()
+    );
     if let Some((number, one, other)) = first {
-        streams::fail(&format!("the first difference is line {number}:\n  {left}:\n    {one}\n  {right}:\n    {other}"));
+        streams::fail(&format!(
+            "the first difference is line {number}:\n  {left}:\n    {one}\n  {right}:\n    {other}"
+        ));
     }
     if compared == 0 {
         streams::fail("there were no cases");

@@ -160,3 +160,27 @@ pub fn ln(mut x: f64) -> f64 {
         dk * LN2_HI - ((s * (f - r) - dk * LN2_LO) - f)
     }
 }
+
+#[cfg(test)]
+mod tests {
+    use super::{exp, ln};
+
+    #[test]
+    fn fdlibm_5_3_and_no_other() {
+        // Libraries that treat 1 apart give 2.718281828459045.
+        assert_eq!(exp(1.0).to_bits(), 0x4005_bf0a_8b14_576a);
+    }
+
+    #[test]
+    fn ends() {
+        assert_eq!(exp(f64::INFINITY), f64::INFINITY);
+        assert_eq!(exp(f64::NEG_INFINITY).to_bits(), 0);
+        assert_eq!(exp(-0.0), 1.0);
+        assert!(exp(f64::NAN).is_nan());
+        assert_eq!(ln(1.0).to_bits(), 0);
+        assert_eq!(ln(0.0), f64::NEG_INFINITY);
+        assert_eq!(ln(-0.0), f64::NEG_INFINITY);
+        assert_eq!(ln(f64::INFINITY), f64::INFINITY);
+        assert!(ln(-1.0).is_nan() && ln(f64::NEG_INFINITY).is_nan() && ln(f64::NAN).is_nan());
+    }
+}

@@ -3,7 +3,8 @@
 use crate::leaves::{realistic_values, P};
 use crate::random::{moved, Random};
 use crate::starts::{grams_at, hundredths};
-use text::{Case, Problem};
+use std::collections::HashSet;
+use text::{Case, Line, Problem};
 
 const INF: f64 = f64::INFINITY;
 
@@ -31,7 +32,11 @@ impl Call {
     /// One group, no finite bounds, theta 1, outputs of the right lengths.
     fn new(code: u64, readings: &[(f64, f64)], effects: &[u64], starts: &[f64]) -> Self {
         let p = starts.len();
-        let theta = if effects.len() == 2 { vec![1.0, 0.0, 1.0] } else { vec![1.0] };
+        let theta = if effects.len() == 2 {
+            vec![1.0, 0.0, 1.0]
+        } else {
+            vec![1.0]
+        };
         Call {
             problem: Problem {
                 code,
@@ -174,7 +179,9 @@ fn separating() -> Vec<Call> {
             c.problem.upper[3] = 10.0;
         }),
         // Effects are not projected at the start.
-        Call::new(3, &three, &[0], &[1.0, 1.0]).rounds(0).with(|c| c.problem.group_lower[0] = 3.0),
+        Call::new(3, &three, &[0], &[1.0, 1.0])
+            .rounds(0)
+            .with(|c| c.problem.group_lower[0] = 3.0),
         // Floored theta.
         Call::new(3, &three, &[0], &[8.0, 1.0]).theta(&[-2.0]),
         // A covariance that overflows.
@@ -212,6 +219,24 @@ fn separating() -> Vec<Call> {
 
 type Fault = fn(&mut Call);
 
+/// Puts a value where the list has such a place: another fault may have taken it away.
+fn put<T>(list: &mut [T], at: usize, value: T) {
+    if let Some(place) = list.get_mut(at) {
+        *place = value;
+    }
+}
+
+fn put_last<T>(list: &mut [T], value: T) {
+    if let Some(place) = list.last_mut() {
+        *place = value;
+    }
+}
+
+fn bounds(lower: &mut [f64], upper: &mut [f64], at: usize, values: (f64, f64)) {
+    put(lower, at, values.0);
+    put(upper, at, values.1);
+}
+
 /// Ways to each refusal, by its number.
 fn faults() -> Vec<(u64, Fault)> {
     vec![
@@ -225,12 +250,13 @@ fn faults() -> Vec<(u64, Fault)> {
             c.problem.groups.clear();
         }),
         (2, |c| {
-            c.problem.doses = vec![1.0; 513];
-            c.problem.grams = vec![1.0; 513];
-            c.problem.groups = vec![0; 513];
+            c.problem.doses.resize(513, 1.0);
+            c.problem.grams.resize(513, 1.0);
+            c.problem.groups.resize(513, 0);
         }),
         (2, |c| c.problem.doses.truncate(1)),
         (2, |c| c.problem.doses.clear()),
+        (2, |c| c.problem.doses.push(1.0)),
         (2, |c| c.problem.grams.truncate(1)),
         (2, |c| c.problem.grams.push(1.0)),
         (2, |c| c.problem.groups.truncate(1)),
@@ -239,13 +265,17 @@ fn faults() -> Vec<(u64, Fault)> {
         (3, |c| c.problem.group_count = 33),
         (3, |c| c.problem.group_count = 1 << 32 | 1),
         (3, |c| c.problem.group_count = u64::MAX),
-        (4, |c| c.problem.groups[0] = c.problem.group_count),
-        (4, |c| *c.problem.groups.last_mut().unwrap() = u64::MAX),
+        (4, |c| put(&mut c.problem.groups, 0, c.problem.group_count)),
+        (4, |c| put_last(&mut c.problem.groups, u64::MAX)),
+        (4, |c| put(&mut c.problem.groups, 1, 1 << 32)),
         (5, |c| c.problem.effects.clear()),
         (5, |c| c.problem.effects = vec![0, 1, 0]),
         (5, |c| c.problem.effects = vec![1, 1]),
-        (5, |c| c.problem.effects[0] = c.problem.starts.len() as u64),
+        (5, |c| {
+            put(&mut c.problem.effects, 0, P[c.problem.code.min(4) as usize] as u64)
+        }),
         (5, |c| c.problem.effects = vec![0, u64::MAX]),
+        (5, |c| c.problem.effects = vec![1 << 32]),
         (5, |c| c.problem.effects = vec![4]),
         (6, |c| {
             c.problem.starts.pop();
@@ -254,50 +284,55 @@ fn faults() -> Vec<(u64, Fault)> {
         (6, |c| {
             c.problem.lower.pop();
         }),
+        (6, |c| c.problem.lower.push(-1e9)),
         (6, |c| c.problem.upper.push(1e9)),
         (6, |c| c.problem.group_lower.clear()),
         (6, |c| {
             c.problem.group_upper.pop();
         }),
         (6, |c| c.theta.clear()),
-        (6, |c| c.theta.truncate(2)),
         (6, |c| c.theta.push(1.0)),
         (6, |c| c.theta = vec![1.0, 0.0]),
-        (7, |c| c.problem.doses[1] = f64::NAN),
-        (7, |c| c.problem.doses[0] = -INF),
-        (7, |c| c.problem.grams[1] = INF),
-        (7, |c| c.problem.grams[0] = f64::NAN),
-        (7, |c| c.problem.starts[0] = f64::NAN),
-        (7, |c| c.problem.starts[1] = -INF),
-        (7, |c| c.theta[0] = f64::NAN),
-        (7, |c| *c.theta.last_mut().unwrap() = INF),
-        (7, |c| c.problem.lower[0] = f64::NAN),
-        (7, |c| c.problem.upper[1] = f64::NAN),
-        (7, |c| c.problem.group_lower[1] = f64::NAN),
-        (7, |c| c.problem.group_upper[0] = f64::NAN),
-        (7, |c| c.problem.lower[1] = INF),
-        (7, |c| c.problem.upper[0] = -INF),
-        (7, |c| c.problem.group_lower[0] = INF),
-        (7, |c| c.problem.group_upper[1] = -INF),
+        (6, |c| {
+            c.theta = if c.theta.len() == 1 {
+                vec![1.0, 0.0, 1.0]
+            } else {
+                vec![1.0]
+            }
+        }),
+        (7, |c| put(&mut c.problem.doses, 1, f64::NAN)),
+        (7, |c| put(&mut c.problem.doses, 0, -INF)),
+        (7, |c| put_last(&mut c.problem.grams, INF)),
+        (7, |c| put(&mut c.problem.grams, 0, f64::NAN)),
+        (7, |c| put(&mut c.problem.starts, 0, f64::NAN)),
+        (7, |c| put_last(&mut c.problem.starts, -INF)),
+        (7, |c| put(&mut c.theta, 0, f64::NAN)),
+        (7, |c| put_last(&mut c.theta, INF)),
+        (7, |c| put(&mut c.problem.lower, 0, f64::NAN)),
+        (7, |c| put(&mut c.problem.upper, 1, f64::NAN)),
+        (7, |c| put(&mut c.problem.group_lower, 1, f64::NAN)),
+        (7, |c| put(&mut c.problem.group_upper, 0, f64::NAN)),
+        (7, |c| put_last(&mut c.problem.lower, INF)),
+        (7, |c| put(&mut c.problem.upper, 0, -INF)),
+        (7, |c| put(&mut c.problem.group_lower, 0, INF)),
+        (7, |c| put_last(&mut c.problem.group_upper, -INF)),
         (8, |c| {
-            c.problem.lower[1] = 2.0;
-            c.problem.upper[1] = moved(2.0, -1);
+            bounds(&mut c.problem.lower, &mut c.problem.upper, 1, (2.0, moved(2.0, -1)))
         }),
         (8, |c| {
-            c.problem.lower[0] = 5e-324;
-            c.problem.upper[0] = 0.0;
+            bounds(&mut c.problem.lower, &mut c.problem.upper, 0, (5e-324, 0.0))
         }),
         (8, |c| {
-            c.problem.group_lower[0] = 1.0;
-            c.problem.group_upper[0] = -1.0;
+            bounds(&mut c.problem.group_lower, &mut c.problem.group_upper, 0, (1.0, -1.0))
         }),
         (8, |c| {
-            c.problem.group_lower[1] = 1.0;
-            c.problem.group_upper[1] = 0.0;
+            bounds(&mut c.problem.group_lower, &mut c.problem.group_upper, 1, (1.0, 0.0))
         }),
         (9, |c| c.n_values = 0),
         (9, |c| c.n_values += 1),
+        (9, |c| c.n_values -= usize::from(c.n_values > 0)),
         (9, |c| c.n_effects_out += 1),
+        (9, |c| c.n_effects_out -= usize::from(c.n_effects_out > 0)),
         (9, |c| c.n_effects_out = 0),
         (9, |c| c.n_effects_out *= 2),
         (10, |c| c.max_rounds = 1001),
@@ -312,27 +347,11 @@ fn faults() -> Vec<(u64, Fault)> {
     ]
 }
 
-/// A fault cannot be put where another has taken the list away.
-fn faulty(call: &Call, faults: &[Fault]) -> Option<Call> {
-    let mut call = call.clone();
-    for fault in faults {
-        let p = &call.problem;
-        let short = p.doses.len() < 2
-            || p.grams.len() < 2
-            || p.groups.is_empty()
-            || p.effects.is_empty()
-            || call.theta.is_empty()
-            || [&p.starts, &p.lower, &p.upper, &p.group_lower, &p.group_upper]
-                .iter()
-                .any(|list| list.len() < 2);
-        if short {
-            return None;
-        }
-        fault(&mut call);
-    }
-    Some(call)
+fn faulty(call: &Call, faults: &[Fault]) -> Call {
+    faults.iter().fold(call.clone(), |call, fault| call.with(fault))
 }
 
+/// Each fault alone, and each pair of faults of different numbers, put in either order.
 fn refused() -> Vec<Call> {
     let readings = [(1.0, 4.0), (2.0, 5.3), (3.0, 6.0), (4.0, 6.4)];
     let base = Call::new(3, &readings, &[0], &[8.0, 1.0])
@@ -346,15 +365,13 @@ fn refused() -> Vec<Call> {
     let mut out = Vec::new();
     for call in [&base, &logistic, &fpl] {
         for (_, fault) in &faults {
-            out.extend(faulty(call, &[*fault]));
+            out.push(faulty(call, &[*fault]));
         }
     }
-    for (i, (first, one)) in faults.iter().enumerate() {
-        for (second, other) in &faults[i + 1..] {
+    for (first, one) in &faults {
+        for (second, other) in &faults {
             if first != second {
-                // Where the second cannot be put after the first, it can before.
-                out.extend(faulty(&base, &[*one, *other]));
-                out.extend(faulty(&base, &[*other, *one]));
+                out.push(faulty(&base, &[*one, *other]));
             }
         }
     }
@@ -422,19 +439,37 @@ fn limits() -> Vec<Call> {
 }
 
 const THETAS: [f64; 18] = [
-    0.0, -0.0, -2.0, 0.5, 1.0, 3.0, 20.0, 1e-8, 9.9e-9, 1e-9, 5e-324, 1e-160, 1e7, 1e9, 1e154, 1e200, -1e200, f64::MAX,
+    0.0,
+    -0.0,
+    -2.0,
+    0.5,
+    1.0,
+    3.0,
+    20.0,
+    1e-8,
+    9.9e-9,
+    1e-9,
+    5e-324,
+    1e-160,
+    1e7,
+    1e9,
+    1e154,
+    1e200,
+    -1e200,
+    f64::MAX,
 ];
 
-pub fn directed(operation: Operation) -> Vec<Case> {
-    let mut calls = Vec::new();
+/// Inputs that tell readings apart, each in several ways; limits; refusals.
+pub fn directed(operation: Operation) -> Vec<Vec<Case>> {
+    let mut apart = Vec::new();
     for call in separating() {
-        calls.push(call.clone());
+        apart.push(call.clone());
         match operation {
-            Operation::Fit => calls.extend([0, 1, 2, 3].map(|n| call.clone().rounds(n))),
+            Operation::Fit => apart.extend([0, 1, 2, 3].map(|n| call.clone().rounds(n))),
             Operation::Criterion | Operation::Search => {
                 for order in [0, 3, 5, 11] {
                     for reml in [0, 1] {
-                        calls.push(call.clone().with(|c| {
+                        apart.push(call.clone().with(|c| {
                             c.reml = reml;
                             c.n_agq = order;
                             c.max_rounds = c.max_rounds.min(120);
@@ -444,23 +479,33 @@ pub fn directed(operation: Operation) -> Vec<Case> {
             }
         }
     }
-    calls.extend(refused());
-    calls.extend(limits());
+    let mut lists = vec![apart, limits(), refused()];
     if operation == Operation::Search {
         // Two effects are refused; their one-effect sisters are not.
-        for call in calls.clone() {
-            if call.problem.effects.len() == 2 && call.problem.effects[0] != call.problem.effects[1] {
-                calls.push(call.with(|c| c.problem.effects.truncate(1)));
+        for calls in &mut lists[..2] {
+            for call in calls.clone() {
+                if call.problem.effects.len() == 2 {
+                    calls.push(call.with(|c| c.problem.effects.truncate(1)));
+                }
             }
-        }
-        for call in &mut calls {
-            if call.problem.doses.len() > 64 {
-                call.max_rounds = call.max_rounds.min(3);
-                call.max_narrowings = call.max_narrowings.min(3);
+            for call in calls {
+                if call.problem.doses.len() > 64 {
+                    call.max_rounds = call.max_rounds.min(3);
+                    call.max_narrowings = call.max_narrowings.min(3);
+                }
             }
         }
     }
-    calls.iter().map(|call| call.case(operation)).collect()
+    // Two faults put in either order are mostly one case.
+    let mut seen = HashSet::new();
+    let mut new = |case: &Case| seen.insert(std::mem::take(&mut Line::default().case(case).0));
+    lists
+        .iter()
+        .map(|calls| {
+            let cases = calls.iter().map(|call| call.case(operation));
+            cases.filter(|case| new(case)).collect()
+        })
+        .collect()
 }
 
 pub const KINDS: usize = 14;
@@ -475,7 +520,9 @@ pub fn random(r: &mut Random, kind: usize, operation: Operation) -> Case {
     let mut n = r.upto(1, if search { 12 } else { 20 }) as usize;
     let mut m = r.upto(1, 5);
     let kind = kind % KINDS;
-    if kind == 6 {
+    if kind <= 2 {
+        n = r.upto(6, if search { 14 } else { 24 }) as usize;
+    } else if kind == 6 {
         n = r.upto(20, if search { 24 } else { 60 }) as usize;
         m = r.upto(2, 12);
     } else if kind == 8 {
@@ -593,8 +640,7 @@ pub fn random(r: &mut Random, kind: usize, operation: Operation) -> Case {
                 *x *= r.pick(&[1.0, -1.0, 0.0, -0.0, 1e-9, 1e3]);
             }
             let last = call.problem.starts.len() - 1;
-            call.problem.starts[last] =
-                r.pick(&[0.0, -0.0, 1e-8, 9.9e-9, -9.9e-9, -1e-8, 1e-6, -1.0, 350.0, 5e-324]);
+            call.problem.starts[last] = r.pick(&[0.0, -0.0, 1e-8, 9.9e-9, -9.9e-9, -1e-8, 1e-6, -1.0, 350.0, 5e-324]);
         }
         // A fault or two.
         13 => {
@@ -602,9 +648,7 @@ pub fn random(r: &mut Random, kind: usize, operation: Operation) -> Case {
             let one = faults[r.below(faults.len() as u64) as usize].1;
             let other = faults[r.below(faults.len() as u64) as usize].1;
             let chosen = if r.one_in(2) { vec![one] } else { vec![one, other] };
-            if let Some(changed) = faulty(&call, &chosen) {
-                call = changed;
-            }
+            call = faulty(&call, &chosen);
         }
         _ => {}
     }

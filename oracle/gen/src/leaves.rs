@@ -19,8 +19,8 @@ fn both_signs(list: Vec<f64>) -> impl Iterator<Item = f64> {
     list.into_iter().flat_map(|x| [x, -x])
 }
 
-/// Where e_exp.c changes its branch, every k, and the ends of the range.
-pub fn exp() -> Vec<Case> {
+/// Where e_exp.c changes its branch and the ends of the range; every k and every power of two.
+pub fn exp() -> Vec<Vec<Case>> {
     let mut at = Vec::new();
     for x in SPECIAL {
         around(&mut at, x, 4);
@@ -41,6 +41,8 @@ pub fn exp() -> Vec<Case> {
     ] {
         around(&mut at, x, 16);
     }
+    let branches = both_signs(at).map(Case::Exp).collect();
+    let mut at = Vec::new();
     for k in 0..1076 {
         around(&mut at, k as f64 * LN2, 2);
         around(&mut at, (k as f64 + 0.5) * LN2, 2);
@@ -49,7 +51,7 @@ pub fn exp() -> Vec<Case> {
     for exponent in -1074..1024 {
         around(&mut at, scaled(1.0, exponent), 1);
     }
-    both_signs(at).map(Case::Exp).collect()
+    vec![branches, both_signs(at).map(Case::Exp).collect()]
 }
 
 pub fn exp_random(r: &mut Random, kind: usize) -> Case {
@@ -63,31 +65,35 @@ pub fn exp_random(r: &mut Random, kind: usize) -> Case {
     })
 }
 
-/// Where e_log.c changes its branch, at every power of two, and the neighbours of 1.
-pub fn ln() -> Vec<Case> {
+/// Special floats and the neighbours of 1; every power of two; where e_log.c changes its branch.
+pub fn ln() -> Vec<Vec<Case>> {
     let mut at = Vec::new();
     for x in SPECIAL {
         around(&mut at, x, 4);
         at.push(-x);
     }
     around(&mut at, 1.0, 64);
+    for shift in 0..53 {
+        at.push(1.0 + scaled(1.0, -shift));
+        at.push(1.0 - scaled(1.0, -shift));
+    }
+    let special = at.drain(..).map(Case::Ln).collect();
     for exponent in -1074..1024 {
         around(&mut at, scaled(1.0, exponent), 2);
     }
+    let powers = at.drain(..).map(Case::Ln).collect();
     // By high words: sqrt(2), the two ends of the middle branch, |f| < 2^-20.
     for exponent in [-1022, -1021, -500, -2, -1, 0, 1, 2, 500, 1022, 1023] {
-        for high in [0x6a09c, 0x6a09b, 0x6147a, 0x6147b, 0x6b851, 0x6b852, 0xffffd, 0xffffe, 0xfffff, 0, 1, 2] {
+        for high in [
+            0x6a09c, 0x6a09b, 0x6147a, 0x6147b, 0x6b851, 0x6b852, 0xffffd, 0xffffe, 0xfffff, 0, 1, 2,
+        ] {
             let place = ((1023 + exponent) as u64) << 52 | (high as u64) << 32;
             around(&mut at, bits(place), 3);
             at.push(bits(place | 0xffff_ffff));
         }
         around(&mut at, scaled(std::f64::consts::SQRT_2, exponent), 3);
     }
-    for shift in 0..53 {
-        at.push(1.0 + scaled(1.0, -shift));
-        at.push(1.0 - scaled(1.0, -shift));
-    }
-    at.into_iter().map(Case::Ln).collect()
+    vec![special, powers, at.into_iter().map(Case::Ln).collect()]
 }
 
 pub fn ln_random(r: &mut Random, kind: usize) -> Case {
@@ -101,23 +107,25 @@ pub fn ln_random(r: &mut Random, kind: usize) -> Case {
     })
 }
 
-/// Squares and what lies halfway between them, powers of two, subnormals.
-pub fn sqrt() -> Vec<Case> {
+/// Special floats; powers of two, subnormal ones too; squares and what lies halfway between them.
+pub fn sqrt() -> Vec<Vec<Case>> {
     let mut at = Vec::new();
     for x in SPECIAL {
         around(&mut at, x, 4);
         at.push(-x);
     }
+    let special = at.drain(..).map(Case::Sqrt).collect();
     for exponent in -1074..1024 {
         around(&mut at, scaled(1.0, exponent), 2);
     }
+    let powers = at.drain(..).map(Case::Sqrt).collect();
     for n in 0..2000 {
         let root = (1u64 << 26) as f64 - 1000.0 + n as f64;
         around(&mut at, root * root, 1);
         around(&mut at, root * (root + 1.0), 1);
         around(&mut at, n as f64 * n as f64, 1);
     }
-    at.into_iter().map(Case::Sqrt).collect()
+    vec![special, powers, at.into_iter().map(Case::Sqrt).collect()]
 }
 
 pub fn sqrt_random(r: &mut Random, kind: usize) -> Case {
@@ -135,17 +143,21 @@ pub fn sqrt_random(r: &mut Random, kind: usize) -> Case {
     })
 }
 
-pub fn gh_order() -> Vec<Case> {
+pub fn gh_order() -> Vec<Vec<Case>> {
     let mut asked: Vec<u64> = (0..65).collect();
     for shift in 6..64 {
         asked.extend([(1u64 << shift) - 1, 1 << shift, (1 << shift) + 1]);
     }
     asked.push(u64::MAX);
-    asked.into_iter().map(Case::GhOrder).collect()
+    vec![asked.into_iter().map(Case::GhOrder).collect()]
 }
 
 pub fn gh_order_random(r: &mut Random, kind: usize) -> Case {
-    Case::GhOrder(if kind % 2 == 0 { r.below(16) } else { r.bits() >> r.below(64) })
+    Case::GhOrder(if kind % 2 == 0 {
+        r.below(16)
+    } else {
+        r.bits() >> r.below(64)
+    })
 }
 
 pub const P: [usize; 5] = [0, 3, 3, 2, 4];
@@ -160,44 +172,44 @@ fn tuples(of: &[f64], length: usize) -> Vec<Vec<f64>> {
     })
 }
 
-pub fn curve() -> Vec<Case> {
-    let mut out = Vec::new();
-    let mut add = |code: u64, values: &[f64], dose: f64| {
-        out.push(Case::Curve {
-            code,
-            values: values.to_vec(),
-            dose,
-        })
+/// Document 01's rows and both refusals; special floats in every place.
+pub fn curve() -> Vec<Vec<Case>> {
+    let case = |code: u64, values: &[f64], dose: f64| Case::Curve {
+        code,
+        values: values.to_vec(),
+        dose,
     };
     let two_1023 = bits(0x7fe0_0000_0000_0000);
-    // Document 01's rows.
-    add(3, &[8.0, 1.0], 3.0);
-    add(3, &[8.0, two_1023], two_1023);
-    add(3, &[8.0, -3.0], 3.0);
-    add(3, &[8.0, 0.0], 0.0);
-    add(1, &[200.0, 5.0, 350.0], 5.0);
-    add(2, &[90.0, 20.0, 0.0], 0.0);
-    // Both refusals, alone and together.
+    let mut rows = vec![
+        case(3, &[8.0, 1.0], 3.0),
+        case(3, &[8.0, two_1023], two_1023),
+        case(3, &[8.0, -3.0], 3.0),
+        case(3, &[8.0, 0.0], 0.0),
+        case(1, &[200.0, 5.0, 350.0], 5.0),
+        case(2, &[90.0, 20.0, 0.0], 0.0),
+    ];
     for code in [0, 1, 2, 3, 4, 5, 6, 255, 256, 257, 1 << 32 | 1, 1 << 63, u64::MAX] {
         for length in 0..7 {
-            add(code, &vec![1.5; length], 2.0);
-            add(code, &vec![f64::NAN; length], f64::INFINITY);
+            rows.push(case(code, &vec![1.5; length], 2.0));
+            rows.push(case(code, &vec![f64::NAN; length], f64::INFINITY));
         }
     }
-    let two = [0.0, -0.0, 1.0, -3.0, f64::INFINITY, f64::NEG_INFINITY, f64::NAN, f64::MAX, -f64::MAX, 5e-324, -5e-324, two_1023, 2e-308, 1e200];
-    for list in tuples(&two, 3) {
-        add(3, &list[..2], list[2]);
-    }
-    let three = [0.0, -0.0, 1.0, -2.0, f64::INFINITY, f64::NEG_INFINITY, f64::NAN, f64::MAX, 5e-324, 700.0, 1e200];
-    for list in tuples(&three, 4) {
-        add(1, &list[..3], list[3]);
-        add(2, &list[..3], list[3]);
-    }
-    let four = [0.0, -0.0, 1.0, -2.0, f64::INFINITY, f64::NAN, f64::MAX];
-    for list in tuples(&four, 5) {
-        add(4, &list[..4], list[4]);
-    }
-    out
+    const INF: f64 = f64::INFINITY;
+    const NAN: f64 = f64::NAN;
+    const MAX: f64 = f64::MAX;
+    let two = [
+        0.0, -0.0, 1.0, -3.0, INF, -INF, NAN, MAX, -MAX, 5e-324, -5e-324, two_1023, 2e-308, 1e200,
+    ];
+    let three = [0.0, -0.0, 1.0, -2.0, INF, -INF, NAN, MAX, 5e-324, 700.0, 1e200];
+    let four = [0.0, -0.0, 1.0, -2.0, INF, NAN, MAX];
+    let all = |code: u64, of: &[f64]| {
+        let p = P[code as usize];
+        tuples(of, p + 1)
+            .iter()
+            .map(|list| case(code, &list[..p], list[p]))
+            .collect()
+    };
+    vec![rows, all(3, &two), all(1, &three), all(2, &three), all(4, &four)]
 }
 
 /// Realistic values of a curve over doses from 0 to 10.

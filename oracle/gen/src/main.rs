@@ -5,8 +5,8 @@
 //!     gen --longest BYTES SEED LINES OPERATION[=COUNT]..
 //!
 //! LINES is the number of cases of each of exp, ln, sqrt and curve; the dearer operations get a share of it (see
-//! `share`), and COUNT overrides both. A list made by hand comes first (limits, refusals and pairs of them, inputs
-//! that tell readings apart), whole where it fills at most half of the count, else every so-manyth of it; random
+//! `share`), and COUNT overrides both. Lists made by hand come first (inputs that tell readings apart, limits,
+//! refusals and pairs of them), whole where they fill at most half of the count, else some of each, evenly; random
 //! cases of each kind in turn fill the rest. `--realistic` prints only what a paint shop's readings give;
 //! `--longest` leaves out longer lines.
 
@@ -25,14 +25,14 @@ fn share(operation: &str, lines: usize) -> usize {
         "gh_order" => 100,
         "start" => 4,
         "fit" => 20,
-        "criterion" => 40,
-        "search" => 400,
+        "criterion" => 20,
+        "search" => 100,
         _ => 1,
     };
     lines.div_ceil(of)
 }
 
-fn by_hand(operation: &str) -> Vec<Case> {
+fn by_hand(operation: &str) -> Vec<Vec<Case>> {
     match operation {
         "exp" => leaves::exp(),
         "ln" => leaves::ln(),
@@ -108,12 +108,18 @@ fn print_cases(operation: &str, count: usize, seed: u64, realistic: bool, output
     let mut printed = 0;
     let mut tried = 0;
     if !realistic {
-        let cases = by_hand(operation);
-        let wanted = cases.len().min(count.div_ceil(2));
-        for i in 0..wanted {
-            // Evenly over the list, from a place that the seed sets.
-            let at = (i * cases.len() + (seed as usize % cases.len())) / wanted.max(1) % cases.len();
-            printed += usize::from(output.print(&cases[at]));
+        let mut lists = by_hand(operation);
+        // The shortest first, so that what it leaves goes to the longer ones.
+        lists.sort_by_key(Vec::len);
+        let mut left = count.div_ceil(2);
+        for (i, cases) in lists.iter().enumerate() {
+            let wanted = cases.len().min(left.div_ceil(lists.len() - i));
+            left -= wanted;
+            for j in 0..wanted {
+                // Evenly over the list, from a place that the seed sets.
+                let at = (j * cases.len() + seed as usize % cases.len()) / wanted % cases.len();
+                printed += usize::from(output.print(&cases[at]));
+            }
         }
     }
     let kinds = realistic_kinds(operation);
@@ -132,7 +138,10 @@ fn main() {
         match words.remove(0).as_str() {
             "--realistic" => realistic = true,
             "--longest" if !words.is_empty() => {
-                longest = words.remove(0).parse().unwrap_or_else(|_| fail("--longest wants a number"))
+                longest = words
+                    .remove(0)
+                    .parse()
+                    .unwrap_or_else(|_| fail("--longest wants a number"))
             }
             other => fail(&format!("no option '{other}'")),
         }
@@ -140,7 +149,10 @@ fn main() {
     if words.len() < 3 {
         fail("gen [--realistic] [--longest BYTES] SEED LINES OPERATION[=COUNT]..");
     }
-    let number = |word: &str| word.parse::<u64>().unwrap_or_else(|_| fail(&format!("not a number: '{word}'")));
+    let number = |word: &str| {
+        word.parse::<u64>()
+            .unwrap_or_else(|_| fail(&format!("not a number: '{word}'")))
+    };
     let seed = number(&words[0]);
     let lines = number(&words[1]) as usize;
     let mut output = Output {

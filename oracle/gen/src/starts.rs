@@ -28,14 +28,14 @@ fn add(out: &mut Vec<Case>, code: u64, doses: &[f64], grams: &[f64], n_values: u
     });
 }
 
-pub fn start() -> Vec<Case> {
+/// Document 01's rows and every refusal; lists at their limits; doses and grams that separate.
+pub fn start() -> Vec<Vec<Case>> {
     let mut out = Vec::new();
     let o = &mut out;
-    // Document 01's rows.
     add(o, 3, &[1.0, 3.0], &[2.0, 6.0], 2);
     add(o, 3, &[], &[], 2);
     add(o, 1, &[0.0, 1.0, 2.0, 3.0], &[0.0, 2.0, 4.0, 8.0], 3);
-    // Every refusal, alone and together, and every length at a limit.
+    // Every refusal, alone and together.
     for code in [0, 1, 2, 3, 4, 5, 1 << 32 | 1, u64::MAX] {
         for n_values in 0..7 {
             for (doses, grams) in [(4, 4), (0, 0), (4, 3), (3, 4), (0, 1), (1, 0)] {
@@ -44,6 +44,7 @@ pub fn start() -> Vec<Case> {
             }
         }
     }
+    let refused = std::mem::take(o);
     for code in [0, 1, 2, 3, 4] {
         for (doses, grams) in [(511, 511), (512, 512), (513, 513), (512, 513), (513, 512), (600, 600)] {
             let list: Vec<f64> = (0..600).map(|i| f64::from(i * 37 % 101)).collect();
@@ -51,6 +52,7 @@ pub fn start() -> Vec<Case> {
             add(o, code, &list[..doses], &list[..grams], 1);
         }
     }
+    let limits = std::mem::take(o);
     let one_to_six = [1.0, 2.0, 3.0, 4.0, 5.0, 6.0];
     for code in 1..5u64 {
         let p = P[code as usize];
@@ -71,9 +73,7 @@ pub fn start() -> Vec<Case> {
         }
         // Zeros of both signs decide the largest and the smallest by their order.
         for signs in 0..32u32 {
-            let zeros: Vec<f64> = (0..5)
-                .map(|i| if signs >> i & 1 == 1 { -0.0 } else { 0.0 })
-                .collect();
+            let zeros: Vec<f64> = (0..5).map(|i| if signs >> i & 1 == 1 { -0.0 } else { 0.0 }).collect();
             add(o, code, &one_to_six[..5], &zeros, p);
             let mut grams = zeros.clone();
             grams[4] = 2.0;
@@ -91,8 +91,20 @@ pub fn start() -> Vec<Case> {
             }
         }
         // Equal grams, whose order in the second sort decides.
-        add(o, code, &[5.0, 1.0, 4.0, 2.0, 3.0, 6.0], &[2.0, 4.0, 4.0, 8.0, 2.0, 4.0], p);
-        add(o, code, &[6.0, 5.0, 4.0, 3.0, 2.0, 1.0], &[4.0, 4.0, 2.0, 2.0, 8.0, 8.0], p);
+        add(
+            o,
+            code,
+            &[5.0, 1.0, 4.0, 2.0, 3.0, 6.0],
+            &[2.0, 4.0, 4.0, 8.0, 2.0, 4.0],
+            p,
+        );
+        add(
+            o,
+            code,
+            &[6.0, 5.0, 4.0, 3.0, 2.0, 1.0],
+            &[4.0, 4.0, 2.0, 2.0, 8.0, 8.0],
+            p,
+        );
         // Pairs that are skipped.
         for bad in [f64::NAN, f64::INFINITY, f64::NEG_INFINITY] {
             add(o, code, &[bad, 1.0, 2.0, 3.0, 4.0], &[1.0, 2.0, bad, 5.0, 9.0], p);
@@ -107,7 +119,7 @@ pub fn start() -> Vec<Case> {
         add(o, code, &[m, -1.0, 2.0, -m], &[1.0, 2.0, 4.0, 8.0], p);
         add(o, code, &[-m, m, 0.0, 1.0], &[2.0, 4.0, 1.0, 8.0], p);
     }
-    out
+    vec![refused, limits, out]
 }
 
 pub fn start_random(r: &mut Random, kind: usize) -> Case {

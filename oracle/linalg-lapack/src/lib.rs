@@ -69,7 +69,14 @@ impl Factorize for Array2<f64> {
         let mut pivots = vec![0; self.nrows()];
         let mut info = 0;
         unsafe {
-            dgetrf_(&n, &n, factors.entries_mut().as_mut_ptr(), &n, pivots.as_mut_ptr(), &mut info);
+            dgetrf_(
+                &n,
+                &n,
+                factors.entries_mut().as_mut_ptr(),
+                &n,
+                pivots.as_mut_ptr(),
+                &mut info,
+            );
         }
         checked(info)?;
         Ok(Factorized { factors, pivots })

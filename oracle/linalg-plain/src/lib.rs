@@ -17,9 +17,7 @@ pub enum UPLO {
 /// Back substitution runs from the last row, products subtracted in rising column, then the division.
 fn eliminate(matrix: &Array2<f64>, right: &Array1<f64>) -> Result<Array1<f64>> {
     let n = matrix.nrows();
-    let mut a: Vec<Vec<f64>> = (0..n)
-        .map(|i| (0..n).map(|j| matrix[[i, j]]).collect())
-        .collect();
+    let mut a: Vec<Vec<f64>> = (0..n).map(|i| (0..n).map(|j| matrix[[i, j]]).collect()).collect();
     let mut b: Vec<f64> = right.to_vec();
     for column in 0..n {
         let mut pivot = column;
@@ -127,5 +125,71 @@ impl Cholesky for Array2<f64> {
             }
         }
         Ok(l)
+    }
+}
+
+#[cfg(test)]
+mod tests {
+    use super::*;
+
+    fn matrix(rows: [[f64; 2]; 2]) -> Array2<f64> {
+        let mut out = Array2::zeros((2, 2));
+        for i in 0..2 {
+            for j in 0..2 {
+                out[[i, j]] = rows[i][j];
+            }
+        }
+        out
+    }
+
+    fn solve(rows: [[f64; 2]; 2], right: [f64; 2]) -> Option<Vec<f64>> {
+        let right = Array1::from_vec(right.to_vec());
+        matrix(rows).solve(&right).ok().map(|x| x.to_vec())
+    }
+
+    #[test]
+    fn a_tie_keeps_the_first_row() {
+        // The later row would give 0.2666666666666668.
+        let x = solve([[3.0, 8.0], [-3.0, 7.0]], [4.0, 2.0]).unwrap();
+        assert_eq!(x[0], 0.2666666666666666);
+    }
+
+    #[test]
+    fn zero_pivots_give_none_in_every_column() {
+        assert!(solve([[0.0, 1.0], [-0.0, 1.0]], [1.0, 1.0]).is_none());
+        assert!(solve([[1.0, 1.0], [1.0, 1.0]], [1.0, 1.0]).is_none());
+        assert!(solve([[0.0, 1.0], [1.0, 0.0]], [2.0, 3.0]) == Some(vec![3.0, 2.0]));
+    }
+
+    #[test]
+    fn a_zero_entry_still_multiplies() {
+        // 0 / 1 times infinity is a NaN.
+        let x = solve([[1.0, f64::INFINITY], [0.0, 1.0]], [1.0, 1.0]).unwrap();
+        assert!(x[1].is_nan());
+    }
+
+    #[test]
+    fn a_leading_nan_stays_and_an_infinite_pivot_divides_to_zero() {
+        assert!(solve([[f64::NAN, 1.0], [2.0, 1.0]], [1.0, 1.0]).unwrap()[1].is_nan());
+        assert_eq!(
+            solve([[f64::INFINITY, 0.0], [1.0, 1.0]], [1.0, 1.0]),
+            Some(vec![0.0, 1.0])
+        );
+    }
+
+    #[test]
+    fn the_factor_is_of_the_lower_part() {
+        let l = matrix([[4.0, 99.0], [2.0, 10.0]]).cholesky(UPLO::Lower).unwrap();
+        assert_eq!(l.entries(), &[2.0, 0.0, 1.0, 3.0]);
+        assert!(matrix([[1.0, 0.0], [1.0, 1.0]]).cholesky(UPLO::Lower).is_err());
+        assert!(matrix([[f64::NAN, 0.0], [0.0, 1.0]]).cholesky(UPLO::Lower).is_err());
+        assert!(matrix([[f64::INFINITY, 0.0], [0.0, 1.0]]).cholesky(UPLO::Lower).is_ok());
+    }
+
+    #[test]
+    fn the_inverse_solves_unit_columns() {
+        let inverse = matrix([[4.0, 2.0], [2.0, 2.0]]).inv().unwrap();
+        assert_eq!(inverse.entries(), &[0.5, -0.5, -0.5, 1.0]);
+        assert!(matrix([[1.0, 2.0], [2.0, 4.0]]).inv().is_err());
     }
 }

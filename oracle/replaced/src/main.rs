@@ -12,7 +12,10 @@ fn main() {
     text::serve(replaced::operations::answer, |_, out| {
         for state in replaced::hooks::states() {
             let mut line = Line(" ".to_string());
-            line.word("state").floats(&state.params).floats(&state.b).float(state.sum);
+            line.word("state")
+                .floats(&state.params)
+                .floats(&state.b)
+                .float(state.sum);
             out.push_str(&line.0);
             out.push('\n');
         }
