@@ -37,7 +37,7 @@ fn main() {
             println!("line {number} differs:\n  {}\n  {}", text(one), text(other));
             first = Some((number, text(one), text(other)));
         }
-        if number % 1024 == 0 && shown.elapsed() > Duration::from_secs(2) {
+        if shown.elapsed() > Duration::from_secs(2) {
             shown = Instant::now();
             println!(
                 "{:6.1} s: {agreed} of {number} lines agree, now at {}",

@@ -207,6 +207,23 @@ fn separating() -> Vec<Call> {
                 .rounds(5),
         );
     }
+    // The same by a NaN at a node: exp overflows and meets the dose 0, in one effect and in two.
+    let zero_last = [(1.0, 5.0), (2.0, 6.5), (4.0, 7.0), (0.0, 2.0)];
+    for groups in [[0, 0, 0, 1], [1, 1, 1, 0]] {
+        let call = Call::new(2, &zero_last, &[2], &[8.0, 2.0, 0.0])
+            .groups(&groups, 2)
+            .rounds(5);
+        out.push(call.clone().theta(&[1000.0]));
+        out.push(call.with(|c| {
+            c.problem.effects = vec![2, 0];
+            c.theta = vec![1000.0, 0.0, 1.0];
+            c.n_effects_out = 4;
+        }));
+    }
+    // A sum of squares that is a NaN, with each way to sigma2.
+    for effects in [&[0][..], &[0, 1]] {
+        out.push(Call::new(2, &[(0.0, 1.0), (1.0, 2.0)], effects, &[8.0, 2.0, 800.0]).rounds(5));
+    }
     // One of two values fixed by equal bounds, with and without its own effect.
     for effect in [0, 1] {
         out.push(Call::new(3, &three, &[effect], &[8.0, 1.0]).with(|c| {
