@@ -198,8 +198,8 @@ fn separating() -> Vec<Call> {
         Call::new(4, &[(0.0, 4.0)], &[2], &[-1.0, 9.0, -2.0, -3.0]),
         Call::new(3, &[(2.0, 3.0)], &[1], &[3.0, -2.0]),
     ];
-    // Quadrature that ends at a later group keeps nothing of those before it.
-    for theta in [1e9, 1e7] {
+    // Quadrature that ends at a later group keeps nothing of those before it; a curvature of 2^-52 ends it.
+    for theta in [1e9, 1e7, 67108863.0, 67108864.0, 67108865.0] {
         out.push(
             Call::new(3, &[(1.0, 4.0), (2.0, 5.3), (3.0, 6.0), (0.0, 0.1)], &[0], &[8.0, 1.0])
                 .groups(&[0, 0, 0, 1], 2)

@@ -105,6 +105,17 @@ pub fn start() -> Vec<Vec<Case>> {
             &[4.0, 4.0, 2.0, 2.0, 8.0, 8.0],
             p,
         );
+        // The tests against 1e-8: a difference of doses, a difference of grams, a dose.
+        for at in [moved(1e-8, -1), 1e-8, moved(1e-8, 1), -1e-8, moved(-1e-8, 1)] {
+            add(o, code, &[0.0, at, 5.0], &[4.0, 2.0, 8.0], p);
+            add(o, code, &[1.0, 2.0, 3.0, 4.0], &[0.0, at, 0.5 * at, 0.2 * at], p);
+            add(o, code, &[at], &[3.0], p);
+        }
+        // The largest float divided: halves, quarters and the middle of two.
+        for sign in [1.0, -1.0] {
+            let grams = [1e308, 1.2e308, 1.5e308, 1.7e308].map(|x| sign * x);
+            add(o, code, &[1.0, 2.0, 3.0, 4.0], &grams, p);
+        }
         // Pairs that are skipped.
         for bad in [f64::NAN, f64::INFINITY, f64::NEG_INFINITY] {
             add(o, code, &[bad, 1.0, 2.0, 3.0, 4.0], &[1.0, 2.0, bad, 5.0, 9.0], p);
