@@ -77,7 +77,7 @@ lowerSolveOf k theta rhs =
     let y = div (sub (getD rhs 1 nan) (mul (entry l 1 0) x)) (maxOf (entry l 1 1) 1e-12) in
     cond (eqb k 1) (x ∷ zero ∷ []) (x ∷ y ∷ [])
 
--- `re_penalty` of one group's effects b: the sum of the squares, from 0, of the x of L x = b
+-- `re_penalty` of one group's effects b: the squares of the x of L x = b, added from 0 (the source adds from -0; no square is -0, so the sums are the same)
 unfoldable pub penaltyOf : ℕ → List Float → List Float → Float
 penaltyOf k theta b =
     let r = lowerSolveOf k theta b in

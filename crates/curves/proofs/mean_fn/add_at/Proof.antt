@@ -1,3 +1,4 @@
+-- An index past the fourth place writes nothing, in the list as in the array. Assumes nothing.
 use native.Mathlib.Omega.{arith}
 use Rattle.curves.proofs.Laws.{set-past}
 use borrow.Author.Needs.{needs}
