@@ -21,6 +21,8 @@ pub struct Tally {
     pub malformed: u64,
     // the number of the first malformed line
     pub bad: u64,
+    // lines that the reader could not hand out
+    pub unread: u64,
 }
 
 pub fn none() -> Tally
@@ -32,6 +34,7 @@ pub fn none() -> Tally
         differs: [0; 4],
         malformed: 0,
         bad: 0,
+        unread: 0,
     }
 }
 
@@ -105,6 +108,14 @@ pub fn counted(t: Tally, v: Verdict, number: u64) -> Tally
     }
 }
 
+// At the end of the input: the reader's own faults, so that they are seen.
+pub fn at_end(mut t: Tally, run: Run) -> Tally
+    ensures { λ r. ⌜ (Sound t → Sound r) ⌝ }
+{
+    t.unread = run.faults;
+    t
+}
+
 // `exp: 4499 of 4499 agree`, and the first line that differs, if there is one.
 pub fn print_operation(t: Tally, op: usize, name: &[u8]) {
     if op < 4 {
@@ -130,15 +141,11 @@ fn print_first(name: &[u8], text: &[u8], number: u64) {
     }
 }
 
-// The malformed lines, and those that the reader could not hand out.
-pub fn print_malformed(t: Tally, run: Run) {
+// `malformed: 0`, and what else went wrong, if anything did.
+pub fn print_malformed(t: Tally) {
     io::write_all(STDOUT_FILENO, b"malformed: ");
     io::print_decimal(STDOUT_FILENO, t.malformed);
     io::write_all(STDOUT_FILENO, b"\n");
     print_first(b"malformed", b" first in line ", t.bad);
-    if run.faults > 0 {
-        io::write_all(STDOUT_FILENO, b"unread: ");
-        io::print_decimal(STDOUT_FILENO, run.faults);
-        io::write_all(STDOUT_FILENO, b"\n");
-    }
+    print_first(b"lines", b" without an end or too long: ", t.unread);
 }
