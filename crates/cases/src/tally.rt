@@ -21,7 +21,7 @@ pub struct Tally {
     pub malformed: u64,
     // the number of the first malformed line
     pub bad: u64,
-    // lines that the reader could not hand out
+    // lines without an end or too long, and a failed read
     pub unread: u64,
 }
 
@@ -147,5 +147,5 @@ pub fn print_malformed(t: Tally) {
     io::print_decimal(STDOUT_FILENO, t.malformed);
     io::write_all(STDOUT_FILENO, b"\n");
     print_first(b"malformed", b" first in line ", t.bad);
-    print_first(b"lines", b" without an end or too long: ", t.unread);
+    print_first(b"lines", b" that could not be read: ", t.unread);
 }
