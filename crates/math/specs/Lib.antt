@@ -6,3 +6,5 @@ pub mod Ln
 pub mod Sqrt
 pub mod Loops
 pub mod Parts
+pub mod Order
+pub mod Numbers
