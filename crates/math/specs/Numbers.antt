@@ -3,7 +3,6 @@ use mathlib.Core.Path.{_≡_, refl}
 use mathlib.Core.Bool.{Bool, true, false, _&&_, cond, Bool·beq}
 use Prim.Native.Nat.{ℕ, zero, suc, _+_, _-_, _*_, _^_}
 use native.Mathlib.Omega.{arith}
-use lib.IntN.{ℤ}
 use lib.Dec.{T, ltb, eqb, ltb→lt}
 use lib.Ieee.{Float, nan, inf, fin, Format, binary64, isNan, odd, units, round, sum, low, prec, emax, up, down, unlike}
 use lib.Ieee as Ieee

@@ -7,7 +7,7 @@ use lib.IntN.{pos}
 use lib.ListN.{length, drop}
 use lib.Ieee.{Float, inf, binary64, lt, le, ofInt}
 use Rattle.math.specs.Basic.{add, sub, mul, div, bits, one, absOf, maxOf, minOf, isFinite}
-use Rattle.self_start.specs.Pairs.{Pair, pairAt, swapped, seconds}
+use Rattle.self_start.specs.Pairs.{Pair, pairAt, swapped}
 use Rattle.self_start.specs.Sort.{sortOf}
 
 -- ---- `sorted_xy_data`
@@ -64,9 +64,9 @@ approxOf ps xout other =
     (cond (le xout (first .0)) (first .1)
     (cond (le (last .0) xout) (last .1) (windowOf first (drop 1 ps) xout))))
 
--- `approx_x_from_y`: the dose at which the points reach these grams. The sort is the same one, by grams
+-- `approx_x_from_y`: the dose at which the points reach yTarget grams. The sort is the same one, by grams
 unfoldable pub approxXFromY : List Pair → Float → Float → Float
-approxXFromY ps grams other = approxOf (sortOf (swapped ps)) grams other
+approxXFromY ps yTarget other = approxOf (sortOf (swapped ps)) yTarget other
 
 -- ---- the folds by `f64::max` and `f64::min`, from the infinities
 

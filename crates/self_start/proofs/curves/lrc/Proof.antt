@@ -1,13 +1,7 @@
 use Rattle.self_start.specs.Start.{lrcOf}
-use native.Mathlib.Omega.{arith}
 use borrow.Author.Needs.{needs}
 use Rattle.self_start.proofs.curves.lrc.Statement.{statement}
 use Rattle.self_start.proofs.curves.lrc.Tie as tie
-use Rattle.self_start.proofs.curves.lrc.Reads as reads
-use Rattle.self_start.proofs.curves.lrc.Lts as lts
-use Rattle.math.proofs.abs.Reads as abs-reads
-use Rattle.math.proofs.is_finite.Reads as is-finite-reads
-use Rattle.math.proofs.ln.ln.Reads as ln-reads
 
 ln-requires : tie.Need-ln-requires
 ln-requires c κs = search needs

@@ -1,12 +1,7 @@
 use Rattle.self_start.specs.Start.{scalOf}
-use native.Mathlib.Omega.{arith}
 use borrow.Author.Needs.{needs}
 use Rattle.self_start.proofs.curves.scal_or_one.Statement.{statement}
 use Rattle.self_start.proofs.curves.scal_or_one.Tie as tie
-use Rattle.self_start.proofs.curves.scal_or_one.Reads as reads
-use Rattle.self_start.proofs.curves.scal_or_one.Lts as lts
-use Rattle.math.proofs.abs.Reads as abs-reads
-use Rattle.math.proofs.is_finite.Reads as is-finite-reads
 
 is-finite-requires : tie.Need-is-finite-requires
 is-finite-requires c κs = search needs

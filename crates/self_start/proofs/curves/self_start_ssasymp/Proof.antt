@@ -1,4 +1,4 @@
-use mathlib.Core.Path.{_≡_, refl, sym, ap, _∙_}
+use mathlib.Core.Path.{sym}
 use Rattle.self_start.proofs.Starts.{ssasymp-none, ssasymp-yes}
 use borrow.Author.Needs.{needs}
 use Rattle.self_start.proofs.curves.self_start_ssasymp.Statement.{statement}

@@ -1,4 +1,4 @@
-use mathlib.Core.Path.{_≡_, refl, sym, ap, _∙_}
+use mathlib.Core.Path.{sym, _∙_}
 use borrow.Author.Tests.{not-true, not-false}
 use Rattle.self_start.proofs.Starts.{ssfpl-few, ssfpl-near, ssfpl-yes}
 use borrow.Author.Needs.{needs}

@@ -1,5 +1,5 @@
 -- `approx_x_from_y` meets its contract: both lists are copied, the other way round, and sorted. Assumes nothing.
-use mathlib.Core.Path.{_≡_, refl, sym, ap, _∙_}
+use mathlib.Core.Path.{sym, _∙_}
 use lib.ListN.{length}
 use Rattle.self_start.specs.Points.{approxXFromY}
 use Rattle.self_start.proofs.Lent.{front, lent-long, lent-take, lent-front}

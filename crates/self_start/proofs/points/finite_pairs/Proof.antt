@@ -1,7 +1,7 @@
 -- `finite_pairs` meets its contract: the pairs written so far, with the finite ones of those still to be read, are all the finite ones. Assumes nothing.
-use mathlib.Core.Path.{_≡_, refl, sym, ap, _∙_}
+use mathlib.Core.Path.{sym, _∙_}
 use mathlib.Core.Logic.{⊎-elim}
-use Prim.Native.Nat.{_+_, _-_, _≤_, _<_}
+use Prim.Native.Nat.{_-_, _≤_}
 use lib.ListN.{length, drop}
 use Rattle.self_start.specs.Pairs.{zip}
 use Rattle.self_start.specs.Points.{finitePairs}

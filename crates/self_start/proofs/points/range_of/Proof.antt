@@ -1,6 +1,6 @@
 -- `range_of` meets its contract: each fold from here on is the whole fold. Assumes nothing.
-use mathlib.Core.Path.{_≡_, refl, sym, ap, _∙_}
-use Prim.Native.Nat.{_+_, _-_, _≤_, _<_}
+use mathlib.Core.Path.{_≡_, refl, _∙_}
+use Prim.Native.Nat.{_-_, _≤_}
 use lib.Ieee.{neg}
 use lib.ListN.{length, drop}
 use Rattle.self_start.specs.Points.{largestOf, smallestOf}

@@ -1,5 +1,5 @@
 -- `sorted_xy_data` meets its contract: what each call ensures, one after the other. Assumes nothing.
-use mathlib.Core.Path.{_≡_, refl, sym, ap, _∙_}
+use mathlib.Core.Path.{sym, ap, _∙_}
 use Prim.Native.Nat.{_≤_}
 use lib.ListN.{length}
 use Rattle.self_start.specs.Points.{sortedXyData}

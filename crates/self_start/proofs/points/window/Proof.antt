@@ -1,7 +1,7 @@
 -- `window` meets its contract: what the definition gives from the neighbours at hand on is what it gives from the first. Assumes nothing.
-use mathlib.Core.Path.{_≡_, refl, sym, ap, _∙_}
+use mathlib.Core.Path.{_≡_, refl, sym, _∙_}
 use mathlib.Core.Logic.{⊎-elim}
-use Prim.Native.Nat.{_+_, _-_, _≤_, _<_}
+use Prim.Native.Nat.{_-_, _≤_}
 use lib.ListN.{length, drop}
 use Rattle.self_start.specs.Pairs.{zip}
 use Rattle.self_start.specs.Points.{windowOf}
