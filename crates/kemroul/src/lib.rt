@@ -1,9 +1,12 @@
 // The C boundary, include/kemroul.h: each function calls the operation and hands its answer on.
 use curves::Answer;
+use self_start::Answer as Started;
 ghost use mathlib.Core.Path.{_≡_};
 ghost use mathlib.Core.List.{[], _∷_};
 ghost use Rattle.curves.specs.Curve.{curveOf};
 ghost use Rattle.quadrature.specs.Orders.{orderOrZero};
+ghost use Rattle.self_start.specs.Start.{faultOf, writtenOf};
+ghost use lib.ListN.{length};
 ghost use Rattle.kemroul.specs.Boundary.{handed};
 ghost use Rattle.math.specs.Exp.{expOf};
 ghost use Rattle.math.specs.Ln.{lnOf};
@@ -63,5 +66,19 @@ pub extern "C" fn kemroul_curve(
             *d3 = m.d3;
             0
         }
+    }
+}
+
+#[no_mangle]
+pub extern "C" fn kemroul_start(code: u64, doses: &[f64], grams: &[f64], values: &mut [f64]) -> u64
+    ensures number { λ r.
+        ⌜ r ≡ faultOf code (length (now (doses .entry))) (length (now (grams .entry))) (length (now (values .entry))) ⌝ }
+    ensures written { λ _.
+        ⌜ now (values .exit) ≡ writtenOf code (now (doses .entry)) (now (grams .entry)) (now (values .entry)) ⌝ }
+{
+    let answer = self_start::self_start(code, doses, grams, values);
+    match answer {
+        Started::Refused(n) => n,
+        Started::Done => 0,
     }
 }
