@@ -18,7 +18,7 @@ use Rattle.linalg.specs.declared.elimination.Solution.{Solution}
 use Rattle.linalg.specs.Elimination.{solveOf}
 use Rattle.block_solve.specs.declared.normal.BlockNormal.{BlockNormal}
 use Rattle.block_solve.specs.declared.direction.Eliminated.{Eliminated}
-use Rattle.block_solve.specs.Direction.{effectsOf, every, eliminatedOf, finishedOf, componentsOf}
+use Rattle.block_solve.specs.Direction.{effectsOf, every, isSome, eliminatedOf, finishedOf, componentsOf}
 
 -- ---- a part's one or two effects
 
@@ -72,6 +72,10 @@ module _ (t : Float → Bool) (l : List Float) (i : ℕ) where
   every-go p h = rw (drop-cons l i nan p, h, add-one i) refl
 
 -- ---- the finished direction
+
+pub is-direction : (b : Bool) (l : List Float) → isSome (cond b (some l) none) ≡ b
+is-direction true l = refl
+is-direction false l = refl
 
 module _ (n : BlockNormal) (p k groups : ℕ) (t : Float) (e : Eliminated) (h : e ≡ eliminatedOf n p k groups t) where
   pub finished-none : e .found ≡ false → finishedOf n p k groups t ≡ none

@@ -19,7 +19,7 @@ use Rattle.linalg.specs.declared.elimination.System.{System}
 use Rattle.linalg.specs.declared.elimination.Solution.{Solution}
 use Rattle.linalg.specs.Elimination.{known, backOf, noneOf, stopped, cleared, eliminateFrom, solveOf}
 use Rattle.block_solve.specs.declared.normal.BlockNormal.{BlockNormal}
-use Rattle.block_solve.specs.Direction.{every, effectsOf, columnsTimes, appendGroup, componentsOf, eliminatedOf, afterSolve, finishedOf, finiteOnly, directionOf}
+use Rattle.block_solve.specs.Direction.{every, effectsOf, columnsTimes, appendGroup, componentsOf, eliminatedOf, afterSolve, finishedOf, finiteOnly, directionOf, isSome, isDirection, leftIn}
 use Rattle.block_solve.proofs.Laws.{effects-length}
 
 -- ---- what each turn of a loop keeps, the loop keeps
@@ -174,3 +174,13 @@ pub direction-finite : (n : BlockNormal) (p k groups : ℕ) (t : Float) (d : Lis
     → isFinite (getD d i nan) ≡ true
 unfolding directionOf
 direction-finite n p k groups t d i h q = every-at isFinite d i nan (finite-is (finishedOf n p k groups t) d h .0) q
+
+-- what `solve` answers and leaves, by the direction
+pub direction-left : (n : BlockNormal) (p k groups : ℕ) (t : Float) (d out : List Float) → directionOf n p k groups t ≡ some d
+    → leftIn (finishedOf n p k groups t) out ≡ d
+unfolding directionOf
+direction-left n p k groups t d out h = ap (λ o. leftIn o out) (finite-is (finishedOf n p k groups t) d h .1)
+
+pub direction-answer : (n : BlockNormal) (p k groups : ℕ) (t : Float) → isDirection (finishedOf n p k groups t) ≡ isSome (directionOf n p k groups t)
+unfolding directionOf
+direction-answer n p k groups t = refl

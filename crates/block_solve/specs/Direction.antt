@@ -177,9 +177,13 @@ fitting p k groups size = leb p 4 && leb 1 k && leb k 2 && leb groups 32 && eqb 
 unfoldable pub solvedOf : BlockNormal → ℕ → ℕ → ℕ → Float → ℕ → Option (List Float)
 solvedOf n p k groups t size = cond (fitting p k groups size) (finishedOf n p k groups t) none
 
+abbrev pub isSome : Option (List Float) → Bool
+isSome none = false
+isSome (some l) = true
+
+-- whether there is a direction, and what is left in the list
 abbrev pub isDirection : Option (List Float) → Bool
-isDirection none = false
-isDirection (some l) = every isFinite l
+isDirection o = isSome (finiteOnly o)
 
 abbrev pub leftIn : Option (List Float) → List Float → List Float
 leftIn none out = out

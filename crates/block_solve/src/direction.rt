@@ -240,11 +240,11 @@ fn all_finite(l: &[f64]) -> bool
 {
     let mut i = 0usize;
     while i < l.len() {
-        if math::is_finite(l[i]) {
-            i += 1;
-        } else {
+        let finite = math::is_finite(l[i]);
+        if !finite {
             return false;
         }
+        i += 1;
     }
     true
 }

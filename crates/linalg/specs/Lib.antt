@@ -1,2 +1,3 @@
 pub mod Elimination
 pub mod Pair
+pub mod Computes

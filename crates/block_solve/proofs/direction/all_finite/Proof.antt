@@ -1,6 +1,7 @@
 use mathlib.Core.Path.{_≡_, refl, sym, ap, _∙_}
 use Prim.Native.Nat.{_-_}
 use mathlib.Core.Bool.{true, false}
+use borrow.Author.Tests.{not-true, not-false}
 use native.Mathlib.Omega.{arith}
 use lib.ListN.{length, drop, drop-of-length-le}
 use Rattle.math.specs.Basic.{isFinite}
@@ -38,11 +39,11 @@ loop-less c = omega arith
 
 loop-again : tie.Need-loop-again Inv-loop μ-loop
 loop-again c = let t = c .before .before .before .before .loop in
-    sym (every-go isFinite _ (t .i) (c .before .before .before .loop-test .taken) (sym (c .before .is-finite .ensures) ∙ c .if1 .taken)) ∙ t .inv
+    sym (every-go isFinite _ (t .i) (c .before .before .before .loop-test .taken) (sym (c .before .is-finite .ensures) ∙ not-false _ (c .if1 .left))) ∙ t .inv
 
 returns : tie.Need-returns Inv-loop μ-loop
 returns c = let t = c .before .before .before .before .loop in
-    sym (every-stop isFinite _ (t .i) (c .before .before .before .loop-test .taken) (sym (c .before .is-finite .ensures) ∙ c .if1 .left)) ∙ t .inv
+    sym (every-stop isFinite _ (t .i) (c .before .before .before .loop-test .taken) (sym (c .before .is-finite .ensures) ∙ not-true _ (c .if1 .taken))) ∙ t .inv
 
 returns-2 : tie.Need-returns-2 Inv-loop μ-loop
 unfolding every
@@ -59,8 +60,8 @@ all-finite-spec =
     mul-is-finite
     shared-slice-read-is-finite
     is-finite-requires
+    returns
     add-i
     loop-less
     loop-again
-    returns
     returns-2)

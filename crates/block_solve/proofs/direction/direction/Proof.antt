@@ -7,7 +7,7 @@ use Rattle.block_solve.proofs.direction.direction.Tie as tie
 use Rattle.block_solve.proofs.direction.direction.Reads as reads
 use Rattle.block_solve.proofs.direction.direction.Lts as lts
 use Rattle.math.specs.Basic.{isFinite}
-use Rattle.block_solve.proofs.Laws.{finished-none, finished-singular, finished-solved}
+use Rattle.block_solve.proofs.Laws.{finished-none, finished-singular, finished-solved, is-direction}
 use Rattle.linalg.proofs.elimination.solve.Reads as solve-reads
 use Rattle.block_solve.proofs.direction.all_finite.Reads as all-finite-reads
 use Rattle.block_solve.proofs.direction.eliminate_groups.Reads as eliminate-reads
@@ -51,7 +51,7 @@ returns-3 c =
     let b = d .before .before .before .before in
     let a = b .before .before .args in
     let h = finished-solved (a .n) (a .p) (a .k) (a .groups) (a .damping) (b .eliminate-groups .result) (b .eliminate-groups .ensures) (d .solve .result) (d .solve .ensures) (not-false _ (d .before .before .if1 .left)) (not-false _ (i .if2 .left)) in (
-      c .all-finite .ensures ∙ ap (every isFinite) (w .write-direction .ensures) ∙ sym (ap isDirection h),
+      c .all-finite .ensures ∙ ap (every isFinite) (w .write-direction .ensures) ∙ sym (is-direction _ _) ∙ sym (ap isDirection h),
       w .write-direction .ensures ∙ sym (ap (λ z. leftIn z (a .out .now)) h),
     )
 
