@@ -132,13 +132,11 @@ columnsTimesAt w x g l j t = add t (mul (getD w (g * 8 + j * 2 + l) nan) (getD x
 unfoldable pub columnsTimes : List Float → List Float → ℕ → ℕ → ℕ → Float
 columnsTimes w x g l p = span (columnsTimesAt w x g l) 0 p zero
 
--- effect l of group g: v - w x
-abbrev pub effectAt : ℕ → List Float → List Float → List Float → ℕ → ℕ → Float
-effectAt p x v w g l = sub (getD v (g * 2 + l) nan) (columnsTimes w x g l p)
-
+-- one or two effects
 unfoldable pub effectsOf : ℕ → Float → Float → List Float
 effectsOf k x y = cond (eqb k 2) (x ∷ y ∷ []) (x ∷ [])
 
+-- a group's effects are v - w x
 abbrev pub appendGroup : ℕ → ℕ → List Float → List Float → List Float → ℕ → List Float → List Float
 appendGroup p k x v w g l = l ++ effectsOf k (sub (getD v (g * 2) nan) (columnsTimes w x g 0 p)) (sub (getD v (g * 2 + 1) nan) (columnsTimes w x g 1 p))
 

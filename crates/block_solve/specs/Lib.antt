@@ -1,2 +1,3 @@
 pub mod Normal
 pub mod Direction
+pub mod Computes

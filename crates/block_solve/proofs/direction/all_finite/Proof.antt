@@ -1,3 +1,4 @@
+-- Every component passes where those from i on pass, and all before did. Assumes nothing.
 use mathlib.Core.Path.{_≡_, refl, sym, ap, _∙_}
 use Prim.Native.Nat.{_-_}
 use mathlib.Core.Bool.{true, false}

@@ -1,3 +1,4 @@
+-- The three returns are the three cases of the finished direction. Assumes nothing.
 use mathlib.Core.Path.{_≡_, refl, sym, ap, _∙_}
 use borrow.Author.Tests.{not-true, not-false}
 use Rattle.block_solve.specs.Direction.{every, isDirection, leftIn}

@@ -1,3 +1,4 @@
+-- What is left of the definition, from the state reached, is the definition from the start; a group without a solution ends both. Assumes nothing.
 use lib.ListN.{replicate}
 use Rattle.math.specs.Basic.{zero}
 use Rattle.block_solve.specs.declared.direction.Columns.{Columns}

@@ -1,3 +1,4 @@
+-- A row of the system is changed place by place, and its right-hand side last, as the definition has it. Assumes nothing.
 use mathlib.Core.Path.{_≡_, refl, sym, ap, _∙_}
 use Prim.Native.Nat.{ℕ, _-_, _+_, _*_, _≤_, _<_}
 use Rattle.math.specs.Loops.{span, span-none, span-more, span-all}

@@ -1,3 +1,4 @@
+-- What is left of the definition, from the columns reached, is the definition from the start. Assumes nothing.
 use mathlib.Core.Path.{_≡_, refl, sym, ap, _∙_}
 use Prim.Native.Nat.{ℕ, _-_, _+_, _*_, _≤_, _<_}
 use borrow.Author.Needs.{needs}

@@ -1,3 +1,4 @@
+-- The list's first places are the components so far: the fixed values, then a group's effects, put into their part, at its end. Assumes nothing.
 use mathlib.Core.Path.{_≡_, refl, sym, ap, _∙_}
 use Prim.Native.Nat.{ℕ, _-_, _+_, _*_, _≤_, _<_}
 use native.Mathlib.Nat.{zero-mul, add-zero}

@@ -1,3 +1,4 @@
+-- A group's effects are a part of b that lies within it (`group-fits`); each turn adds what the definition adds. Assumes nothing.
 use mathlib.Core.Path.{_≡_, refl, sym, ap, _∙_}
 use Prim.Native.Nat.{ℕ, _-_, _+_, _*_, _≤_, _<_}
 use lib.ListN.{length}

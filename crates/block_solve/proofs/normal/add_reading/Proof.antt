@@ -1,3 +1,4 @@
+-- Each loop adds to one block in the order of the definition, so its record is the definition's after as many turns. Assumes nothing.
 use mathlib.Core.Path.{_≡_, refl, sym, ap, _∙_}
 use Prim.Native.Nat.{_-_, _≤_}
 use mathlib.Core.List.{[]}
