@@ -1,4 +1,4 @@
--- A group's effects written into their part of the list, the test of every component, and the finished direction by what its parts answered. Assumes nothing.
+-- A group's effects written into their part of the list, the test of every component, the finished direction by what its parts answered, and the laws of the two loops that may stop. Assumes nothing.
 use Prim.Native.Nat.{ℕ, zero, suc, _+_, _*_, _-_, _≤_, _<_}
 use mathlib.Core.Path.{_≡_, refl, sym, ap, _∙_}
 use mathlib.Core.Bool.{Bool, true, false, cond, _&&_}
@@ -12,13 +12,13 @@ use lib.Dec.{eqb}
 use lib.Ieee.{Float, nan}
 use lib.ListN.{length, take, drop, set, getD, length-append, length-take}
 use lib.Seq.{take-at, take-suc, take-suc-set, drop-cons, drop-length}
-use Rattle.math.specs.Loops.{pick-true, pick-false}
+use Rattle.math.specs.Loops.{until-stop, until-go, until-done}
 use Rattle.math.specs.Parts.{part, put, part-length}
 use Rattle.linalg.specs.declared.elimination.Solution.{Solution}
 use Rattle.linalg.specs.Elimination.{solveOf}
 use Rattle.block_solve.specs.declared.normal.BlockNormal.{BlockNormal}
 use Rattle.block_solve.specs.declared.direction.Eliminated.{Eliminated}
-use Rattle.block_solve.specs.Direction.{effectsOf, every, isSome, eliminatedOf, finishedOf, componentsOf}
+use Rattle.block_solve.specs.Direction.{noColumn, noColumns, stored, allColumns, columnsFrom, noGroup, stoppedAt, groupStep, groupsFrom, effectsOf, every, isSome, eliminatedOf, finishedOf, componentsOf}
 
 -- ---- a part's one or two effects
 
@@ -90,3 +90,40 @@ module _ (n : BlockNormal) (p k groups : ℕ) (t : Float) (e : Eliminated) (h : 
       → finishedOf n p k groups t ≡ some (componentsOf p k groups (o .x) (e .v) (e .w))
   unfolding finishedOf
   finished-solved o q f u = rw (← h, f, ← q, u)
+
+-- ---- the laws of the loops that may stop
+
+module _ (k : ℕ) (c : List (List Float)) (cross : List Float) (g p : ℕ) where
+  pub columns-stop : (j : ℕ) (w : List Float) → j < p → noColumn k c cross g p j w ≡ true → columnsFrom k c cross g p j w ≡ noColumns k c cross g p j w
+  unfolding columnsFrom
+  columns-stop j w = until-stop (noColumn k c cross g p) (noColumns k c cross g p) (stored k c cross g p) (allColumns k c cross g p) p j w
+
+  pub columns-go : (j : ℕ) (w : List Float) → j < p → noColumn k c cross g p j w ≡ false → columnsFrom k c cross g p j w ≡ columnsFrom k c cross g p (j + 1) (stored k c cross g p j w)
+  unfolding columnsFrom
+  columns-go j w = until-go (noColumn k c cross g p) (noColumns k c cross g p) (stored k c cross g p) (allColumns k c cross g p) p j w
+
+  pub columns-done : (j : ℕ) (w : List Float) → p ≤ j → columnsFrom k c cross g p j w ≡ allColumns k c cross g p w
+  unfolding columnsFrom
+  columns-done j w = until-done (noColumn k c cross g p) (noColumns k c cross g p) (stored k c cross g p) (allColumns k c cross g p) p j w
+
+module _ (random cross rhs : List Float) (p k groups : ℕ) (t : Float) where
+  abbrev none-at : ℕ → Eliminated → Bool
+  none-at = noGroup random cross rhs p k groups t
+
+  abbrev stop-at : ℕ → Eliminated → Eliminated
+  stop-at = stoppedAt random cross rhs p k groups t
+
+  abbrev step-at : ℕ → Eliminated → Eliminated
+  step-at = groupStep random cross rhs p k groups t
+
+  pub groups-stop : (g : ℕ) (e : Eliminated) → g < groups → none-at g e ≡ true → groupsFrom random cross rhs p k groups t g e ≡ stop-at g e
+  unfolding groupsFrom
+  groups-stop g e = until-stop none-at stop-at step-at (λ e. e) groups g e
+
+  pub groups-go : (g : ℕ) (e : Eliminated) → g < groups → none-at g e ≡ false → groupsFrom random cross rhs p k groups t g e ≡ groupsFrom random cross rhs p k groups t (g + 1) (step-at g e)
+  unfolding groupsFrom
+  groups-go g e = until-go none-at stop-at step-at (λ e. e) groups g e
+
+  pub groups-done : (g : ℕ) (e : Eliminated) → groups ≤ g → groupsFrom random cross rhs p k groups t g e ≡ e
+  unfolding groupsFrom
+  groups-done g e = until-done none-at stop-at step-at (λ e. e) groups g e

@@ -1,5 +1,5 @@
 -- The direction (`BlockNormal::solve`, document 01's 'The direction'): each group's damped block is solved, the damped fixed system is reduced by it and solved, and each group's effects follow.
-use Prim.Native.Nat.{ℕ, _+_, _*_, _-_, _<_, _≤_}
+use Prim.Native.Nat.{ℕ, _+_, _*_, _-_, _≤_}
 use mathlib.Core.Path.{_≡_, refl}
 use mathlib.Core.Bool.{Bool, true, false, cond, not, _&&_}
 use mathlib.Core.List.{List, [], _∷_, _++_}
@@ -9,7 +9,7 @@ use lib.Dec.{eqb, leb}
 use lib.Ieee.{Float, nan}
 use lib.ListN.{getD, set, replicate, take}
 use Rattle.math.specs.Basic.{add, sub, mul, zero, bits, maxOf, isFinite}
-use Rattle.math.specs.Loops.{span, until, until-stop, until-go, until-done}
+use Rattle.math.specs.Loops.{span, until}
 use Rattle.linalg.specs.declared.elimination.System.{System}
 use Rattle.linalg.specs.declared.elimination.Solution.{Solution}
 use Rattle.linalg.specs.declared.pair.Solved.{Solved}
@@ -195,40 +195,3 @@ module _ (n : BlockNormal) (p k groups : ℕ) (t : Float) (size : ℕ) where
   pub solve-fits : p ≤ 4 → 1 ≤ k → k ≤ 2 → groups ≤ 32 → size ≡ p + groups * k → solvedOf n p k groups t size ≡ finishedOf n p k groups t
   unfolding solvedOf
   solve-fits a b c d e = rw (le-leb p 4 a, le-leb 1 k b, le-leb k 2 c, le-leb groups 32 d, eq-eqb size (p + groups * k) e) refl
-
--- ---- the laws of the loops that may stop
-
-module _ (k : ℕ) (c : List (List Float)) (cross : List Float) (g p : ℕ) where
-  pub columns-stop : (j : ℕ) (w : List Float) → j < p → noColumn k c cross g p j w ≡ true → columnsFrom k c cross g p j w ≡ noColumns k c cross g p j w
-  unfolding columnsFrom
-  columns-stop j w = until-stop (noColumn k c cross g p) (noColumns k c cross g p) (stored k c cross g p) (allColumns k c cross g p) p j w
-
-  pub columns-go : (j : ℕ) (w : List Float) → j < p → noColumn k c cross g p j w ≡ false → columnsFrom k c cross g p j w ≡ columnsFrom k c cross g p (j + 1) (stored k c cross g p j w)
-  unfolding columnsFrom
-  columns-go j w = until-go (noColumn k c cross g p) (noColumns k c cross g p) (stored k c cross g p) (allColumns k c cross g p) p j w
-
-  pub columns-done : (j : ℕ) (w : List Float) → p ≤ j → columnsFrom k c cross g p j w ≡ allColumns k c cross g p w
-  unfolding columnsFrom
-  columns-done j w = until-done (noColumn k c cross g p) (noColumns k c cross g p) (stored k c cross g p) (allColumns k c cross g p) p j w
-
-module _ (random cross rhs : List Float) (p k groups : ℕ) (t : Float) where
-  abbrev none-at : ℕ → Eliminated → Bool
-  none-at = noGroup random cross rhs p k groups t
-
-  abbrev stop-at : ℕ → Eliminated → Eliminated
-  stop-at = stoppedAt random cross rhs p k groups t
-
-  abbrev step-at : ℕ → Eliminated → Eliminated
-  step-at = groupStep random cross rhs p k groups t
-
-  pub groups-stop : (g : ℕ) (e : Eliminated) → g < groups → none-at g e ≡ true → groupsFrom random cross rhs p k groups t g e ≡ stop-at g e
-  unfolding groupsFrom
-  groups-stop g e = until-stop none-at stop-at step-at (λ e. e) groups g e
-
-  pub groups-go : (g : ℕ) (e : Eliminated) → g < groups → none-at g e ≡ false → groupsFrom random cross rhs p k groups t g e ≡ groupsFrom random cross rhs p k groups t (g + 1) (step-at g e)
-  unfolding groupsFrom
-  groups-go g e = until-go none-at stop-at step-at (λ e. e) groups g e
-
-  pub groups-done : (g : ℕ) (e : Eliminated) → groups ≤ g → groupsFrom random cross rhs p k groups t g e ≡ e
-  unfolding groupsFrom
-  groups-done g e = until-done none-at stop-at step-at (λ e. e) groups g e

@@ -8,7 +8,8 @@ use Rattle.math.specs.Loops.{pick-true, pick-false}
 use mathlib.Core.Bool.{true, false, cond, not}
 use borrow.Author.Needs.{needs}
 use borrow.Author.Tests.{not-true, not-false}
-use Rattle.block_solve.specs.Direction.{untouched, groupsFrom, groups-stop, groups-go, groups-done, eliminatedOf}
+use Rattle.block_solve.specs.Direction.{untouched, groupsFrom, eliminatedOf}
+use Rattle.block_solve.proofs.Laws.{groups-stop, groups-go, groups-done}
 use Rattle.linalg.specs.Pair.{isNone}
 use native.Mathlib.Omega.{arith}
 use Rattle.block_solve.proofs.direction.eliminate_groups.Statement.{statement}

@@ -3,7 +3,8 @@ use mathlib.Core.Path.{_≡_, refl, sym, ap, _∙_}
 use Prim.Native.Nat.{ℕ, _-_, _+_, _*_, _≤_, _<_}
 use borrow.Author.Needs.{needs}
 use Rattle.linalg.specs.Pair.{first, second, isNone}
-use Rattle.block_solve.specs.Direction.{columnOf, columnsFrom, columns-stop, columns-go, columns-done}
+use Rattle.block_solve.specs.Direction.{columnOf, columnsFrom}
+use Rattle.block_solve.proofs.Laws.{columns-stop, columns-go, columns-done}
 use mathlib.Core.Bool.{true, false}
 use native.Mathlib.Omega.{arith}
 use Rattle.block_solve.proofs.direction.solve_columns.Statement.{statement}
