@@ -1,0 +1,4 @@
+pub mod Lists
+pub mod Problem
+pub mod Faults
+pub mod Valid
