@@ -2,3 +2,4 @@ pub mod Lists
 pub mod Problem
 pub mod Faults
 pub mod Valid
+pub mod Rows

@@ -1,6 +1,6 @@
 -- What a fit, a criterion and a search are given. Definitions only.
 use Prim.Native.Nat.{ℕ}
-use mathlib.Core.List.{List}
+use mathlib.Core.List.{List, [], _∷_}
 use lib.Ieee.{Float}
 use lib.ListN.{length}
 use Rattle.curves.specs.MeanFn.{nParamsOf}
@@ -45,3 +45,8 @@ module _ (q : Problem) where
 
   abbrev pub k : ℕ
   k = length (q .effects)
+
+  -- the fit that a search makes at theta t
+  abbrev pub atTheta : Float → Problem
+  atTheta t =
+      problemOf (q .code) (q .doses) (q .grams) (q .group) (q .groups) (q .effects) (q .starts) (q .lower) (q .upper) (q .groupLower) (q .groupUpper) (t ∷ [])

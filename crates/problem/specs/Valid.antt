@@ -12,7 +12,7 @@ use borrow.Author.Tests.{ltb-true, ltb-false, eqb-true, eqb-false, eq-eqb, not-f
 use Rattle.math.specs.Basic.{isFinite}
 use Rattle.curves.specs.MeanFn.{nParamsOf}
 use Rattle.problem.specs.Lists.{every, inOrder, every-at, order-at}
-use Rattle.problem.specs.Problem.{Problem, p, k}
+use Rattle.problem.specs.Problem.{Problem, p, k, atTheta}
 use Rattle.problem.specs.Faults.{isLower, isUpper, allBelow, badCode, badReadings, badGroups, badEffects, badLengths, badTheta, badNumbers, badOrder, badOutputs, tooMany, early, wrongLengths, wrongNumbers, wrongOrder, fitLater, searchLater, firstFrom, refusalOf, searchRefusalOf}
 
 -- without 1 to 5
@@ -195,6 +195,10 @@ module _ (q : Problem) (values effects rounds : ℕ) (ok : refusalOf q values ef
 one-of-two : {n : ℕ} → 1 ≤ n → n ≤ 2 → (n ≡ 2 → ⊥) → n ≡ 1
 one-of-two a b h = omega arith
 
+one-theta : (n : ℕ) → eqb n 2 ≡ false → badTheta n 1 ≡ false
+unfolding badTheta
+one-theta n h = rw h
+
 module _ (q : Problem) (rounds narrowings : ℕ) (ok : searchRefusalOf q rounds narrowings ≡ 0) where
   no-search-fault : (j : ℕ) → getD (early q ++ searchLater q rounds narrowings) j false ≡ false
   unfolding searchRefusalOf
@@ -212,3 +216,59 @@ module _ (q : Problem) (rounds narrowings : ℕ) (ok : searchRefusalOf q rounds 
         few-rounds = ltb-false _ _ (two .0);
         few-narrowings = ltb-false _ _ (ten .1);
       }
+
+  -- so every fit that it makes is without faults
+  pub search-fits : (t : Float) → isFinite t ≡ true → refusalOf (atTheta q t) (p q) (q .groups * k q) rounds ≡ 0
+  unfolding refusalOf firstFrom badOutputs every
+  search-fits t h =
+      let ten = neither _ _ (no-search-fault 9) in
+      let two = neither _ _ (ten .0) in
+      let few : tooMany rounds ≡ false = two .0 in
+      let theta : badTheta (k q) 1 ≡ false = one-theta (k q) (two .1) in
+      simp (
+        no-search-fault 0,
+        no-search-fault 1,
+        no-search-fault 2,
+        no-search-fault 3,
+        no-search-fault 4,
+        no-search-fault 5,
+        no-search-fault 6,
+        no-search-fault 7,
+        h,
+        few,
+        theta,
+        eq-eqb (p q) (p q) refl,
+        eq-eqb (q .groups * k q) (q .groups * k q) refl,
+      )
+
+-- ---- sizes and numbers
+
+pub params-few : (code : ℕ) → (2 ≤ nParamsOf code) × (nParamsOf code ≤ 4)
+unfolding nParamsOf
+params-few code = picked (eqb code 3) (eqb code 4)
+  where
+    picked : (a b : Bool) → (2 ≤ cond a 2 (cond b 4 3)) × (cond a 2 (cond b 4 3) ≤ 4)
+    picked true b = (omega arith, omega arith)
+    picked false true = (omega arith, omega arith)
+    picked false false = (omega arith, omega arith)
+
+pub few-effects : (q : Problem) → Sized q → q .groups * k q ≤ 64
+few-effects q s = mul-le-mul (s .groups-high) (s .effects-high)
+
+pub finite-number : (x : Float) → isFinite x ≡ true → isNan x ≡ false
+unfolding isFinite isNan
+finite-number nan h = clash (sym h)
+finite-number (inf s) h = refl
+finite-number (fin s m e) h = refl
+
+pub lower-number : (x : Float) → isLower x ≡ true → isNan x ≡ false
+unfolding lt isNan
+lower-number nan h = clash (sym h)
+lower-number (inf s) h = refl
+lower-number (fin s m e) h = refl
+
+pub upper-number : (x : Float) → isUpper x ≡ true → isNan x ≡ false
+unfolding lt isNan
+upper-number nan h = clash (sym h)
+upper-number (inf s) h = refl
+upper-number (fin s m e) h = refl

@@ -121,16 +121,17 @@ fn bad_groups(groups: u64) -> bool
 fn bad_effects(p: u64, effects: &[u64]) -> bool
     ensures { λ r. ⌜ r ≡ badEffects p (now (effects .entry)) ⌝ }
 {
-    if effects.len() < 1 {
+    let n = effects.len();
+    if n < 1 {
         return true;
     }
-    if effects.len() > 2 {
+    if n > 2 {
         return true;
     }
     if !all_below(effects, p) {
         return true;
     }
-    if effects.len() == 2 {
+    if n == 2 {
         return effects[0] == effects[1];
     }
     false
