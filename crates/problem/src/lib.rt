@@ -12,7 +12,7 @@ ghost use Rattle.problem.specs.Faults.{isLower, isUpper, allBelow, badCo
 ghost use Rattle.problem.specs.Faults.{badLengths, badTheta, badNumbers, badOrder, badOutputs, tooMany};
 ghost use Rattle.problem.specs.Faults.{firstFive, firstFrom, refusalOf, searchRefusalOf};
 
-pub fn all_below(list: &[u64], bound: u64) -> bool
+pub fn all_below(list: &[usize], bound: usize) -> bool
     ensures { λ r. ⌜ r ≡ allBelow bound (now (list .entry)) ⌝ }
 {
     let mut i = 0usize;
@@ -109,7 +109,7 @@ fn bad_readings(doses: usize, grams: usize, group: usize) -> bool
     group != doses
 }
 
-fn bad_groups(groups: u64) -> bool
+fn bad_groups(groups: usize) -> bool
     ensures { λ r. ⌜ r ≡ badGroups groups ⌝ }
 {
     if groups < 1 {
@@ -118,7 +118,7 @@ fn bad_groups(groups: u64) -> bool
     groups > 32
 }
 
-fn bad_effects(p: u64, effects: &[u64]) -> bool
+fn bad_effects(p: usize, effects: &[usize]) -> bool
     ensures { λ r. ⌜ r ≡ badEffects p (now (effects .entry)) ⌝ }
 {
     let n = effects.len();
@@ -216,14 +216,14 @@ fn bad_order(lower: &[f64], upper: &[f64], group_lower: &[f64], group_upper: &[f
 }
 
 // At most 32 groups of at most 2 effects, so that the product fits.
-fn bad_outputs(p: usize, groups: u64, k: usize, values: usize, effects: usize) -> bool
+fn bad_outputs(p: usize, groups: usize, k: usize, values: usize, effects: usize) -> bool
     requires { ⌜ (groups ≤ 32) × (k ≤ 2) ⌝ }
     ensures { λ r. ⌜ r ≡ badOutputs p groups k values effects ⌝ }
 {
     if values != p {
         return true;
     }
-    effects as u64 != groups * k as u64
+    effects != groups * k
 }
 
 fn too_many(allowed: u64) -> bool
@@ -237,9 +237,9 @@ fn first_five(
     code: u64,
     doses: &[f64],
     grams: &[f64],
-    group: &[u64],
-    groups: u64,
-    effects: &[u64],
+    group: &[usize],
+    groups: usize,
+    effects: &[usize],
 ) -> u64
     ensures { λ r.
         ⌜ r ≡ firstFrom 1
@@ -258,7 +258,7 @@ fn first_five(
     if !all_below(group, groups) {
         return 4;
     }
-    if bad_effects(n_params(code) as u64, effects) {
+    if bad_effects(n_params(code), effects) {
         return 5;
     }
     0
@@ -269,9 +269,9 @@ pub fn fit_fault(
     code: u64,
     doses: &[f64],
     grams: &[f64],
-    group: &[u64],
-    groups: u64,
-    effects: &[u64],
+    group: &[usize],
+    groups: usize,
+    effects: &[usize],
     starts: &[f64],
     lower: &[f64],
     upper: &[f64],
@@ -331,9 +331,9 @@ pub fn search_fault(
     code: u64,
     doses: &[f64],
     grams: &[f64],
-    group: &[u64],
-    groups: u64,
-    effects: &[u64],
+    group: &[usize],
+    groups: usize,
+    effects: &[usize],
     starts: &[f64],
     lower: &[f64],
     upper: &[f64],
