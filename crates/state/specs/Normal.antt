@@ -14,7 +14,7 @@ use Rattle.block_solve.specs.declared.normal.BlockNormal.{BlockNormal}
 use Rattle.block_solve.specs.Normal.{emptyOf, accumulateOf, priorOf}
 use Rattle.problem.specs.Problem.{Problem, k}
 use Rattle.state.specs.declared.State.{State}
-use Rattle.state.specs.Penalized.{meanAt}
+use Rattle.state.specs.Penalized.{meanAt, meanIn}
 
 -- the gradient by value j
 abbrev pub gradientAt : Mean → ℕ → Float
@@ -45,6 +45,13 @@ module _ (code : ℕ) (effects : List ℕ) (doses grams : List Float) (group : L
 
   unfoldable pub readingsOf : State → BlockNormal
   readingsOf s = iter (readingAt s) (length doses) emptyOf
+
+  -- the readings with their curves out of a list
+  abbrev pub readingIn : List Float → ℕ → BlockNormal → BlockNormal
+  readingIn means i n = readingOf i (meanIn means i) n
+
+  unfoldable pub readingsIn : List Float → BlockNormal
+  readingsIn means = iter (readingIn means) (length doses) emptyOf
 
   -- the readings, then the prior of every group, one without readings too, with the covariance's inverse m
   unfoldable pub blocksOf : ℕ → List (List Float) → State → BlockNormal

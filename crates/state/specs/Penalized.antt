@@ -3,7 +3,7 @@ use Prim.Native.Nat.{ℕ, _+_, _*_, _<_}
 use mathlib.Core.Path.{_≡_}
 use mathlib.Core.List.{List}
 use lib.Ieee.{Float, nan}
-use lib.ListN.{getD, length}
+use lib.ListN.{getD, set, length}
 use Rattle.math.specs.Basic.{add, sub, mul, zero}
 use Rattle.math.specs.Loops.{iter}
 use Rattle.math.specs.Parts.{part}
@@ -55,6 +55,10 @@ module _ (q : Problem) where
 unfoldable pub meanIn : List Float → ℕ → Mean
 meanIn means i =
     record { mu = getD means (i * 5) nan; d0 = getD means (i * 5 + 1) nan; d1 = getD means (i * 5 + 2) nan; d2 = getD means (i * 5 + 3) nan; d3 = getD means (i * 5 + 4) nan }
+
+-- y at reading i's places
+unfoldable pub storedMean : ℕ → Mean → List Float → List Float
+storedMean i y means = set (set (set (set (set means (i * 5) (y .mu)) (i * 5 + 1) (y .d0)) (i * 5 + 2) (y .d1)) (i * 5 + 3) (y .d2)) (i * 5 + 4) (y .d3)
 
 -- the list has room for 512 readings, and holds the curve of each reading
 pub record Means (code : ℕ) (effects : List ℕ) (doses : List Float) (group : List ℕ) (s : State) (means : List Float) : Type 0 where

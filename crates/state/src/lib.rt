@@ -1,5 +1,9 @@
 // A fit between its leaves and its rounds: a state, its projection, its penalised sum, its normal
-// blocks, and the state that a trial tries.
+// blocks, and the state that a trial tries. The fit calls these after all refusals.
+pub mod normal;
+pub mod penalized;
+pub mod project;
+pub mod trial;
 
 // Four places for the curve values, of which the curve's own count, and 64 for the effects, group
 // after group.

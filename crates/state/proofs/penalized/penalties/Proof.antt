@@ -1,0 +1,82 @@
+use mathlib.Core.Path.{_≡_}
+use Prim.Native.Nat.{_*_, _+_, _-_, _≤_}
+use native.Mathlib.Omega.{arith}
+use borrow.Author.Needs.{needs}
+use lib.ListN.{length}
+use Rattle.math.specs.Basic.{zero}
+use Rattle.math.specs.Loops.{iter, iter-all, iter-more, iter-none}
+use Rattle.state.specs.Penalized.{penaltyAt, penaltySum}
+use Rattle.state.proofs.Laws.{slot-fits}
+use Rattle.state.proofs.penalized.penalties.Statement.{statement}
+use Rattle.state.proofs.penalized.penalties.Tie as tie
+use Rattle.state.proofs.penalized.penalties.Reads as reads
+use Rattle.state.proofs.penalized.penalties.Lts as lts
+use Rattle.re_cov.proofs.re_penalty.Reads as re-penalty-reads
+
+abbrev Inv-loop : tie.InvT-loop
+Inv-loop k theta groups b t₀ g₀ t g = (g ≤ groups) × (t ≡ iter (penaltyAt k theta b) g zero)
+
+abbrev μ-loop : tie.MeasureT-loop
+μ-loop k theta groups b t₀ g₀ t g = groups - g
+
+loop-holds : tie.Need-loop-holds Inv-loop μ-loop
+loop-holds c = (omega arith, iter-none _ _)
+
+mul-from : tie.Need-mul-from Inv-loop μ-loop
+mul-from c = omega (arith, slot-fits (c .before .loop .g) (c .before .before .before .before .args .groups) (c .before .before .before .before .args .k) (c .loop-test .taken) (c .before .before .before .before .pre .1) (c .before .before .before .before .pre .0))
+
+add-re-penalty : tie.Need-add-re-penalty Inv-loop μ-loop
+add-re-penalty c = omega (arith, slot-fits (c .before .loop .g) (c .before .before .before .before .args .groups) (c .before .before .before .before .args .k) (c .loop-test .taken) (c .before .before .before .before .pre .1) (c .before .before .before .before .pre .0))
+
+mul-re-penalty : tie.Need-mul-re-penalty Inv-loop μ-loop
+mul-re-penalty c = omega (arith, slot-fits (c .before .loop .g) (c .before .before .before .before .args .groups) (c .before .before .before .before .args .k) (c .loop-test .taken) (c .before .before .before .before .pre .1) (c .before .before .before .before .pre .0))
+
+sub-re-penalty : tie.Need-sub-re-penalty Inv-loop μ-loop
+sub-re-penalty c = omega (arith, slot-fits (c .before .loop .g) (c .before .before .before .before .args .groups) (c .before .before .before .before .args .k) (c .loop-test .taken) (c .before .before .before .before .pre .1) (c .before .before .before .before .pre .0))
+
+part-re-penalty-start : tie.Need-part-re-penalty-start Inv-loop μ-loop
+part-re-penalty-start c = omega (arith, slot-fits (c .before .before .loop .g) (c .before .before .before .before .before .args .groups) (c .before .before .before .before .before .args .k) (c .before .loop-test .taken) (c .before .before .before .before .before .pre .1) (c .before .before .before .before .before .pre .0))
+
+part-re-penalty-end : tie.Need-part-re-penalty-end Inv-loop μ-loop
+part-re-penalty-end c =
+    let h : length (c .before .before .before .before .before .args .s .effects) ≡ 64 = search needs in
+    omega (arith, slot-fits (c .before .before .loop .g) (c .before .before .before .before .before .args .groups) (c .before .before .before .before .before .args .k) (c .before .loop-test .taken) (c .before .before .before .before .before .pre .1) (c .before .before .before .before .before .pre .0))
+
+re-penalty-requires : tie.Need-re-penalty-requires Inv-loop μ-loop
+re-penalty-requires c κs = search needs
+
+add-g : tie.Need-add-g Inv-loop μ-loop
+add-g c = omega arith
+
+loop-less : tie.Need-loop-less Inv-loop μ-loop
+loop-less c = omega arith
+
+loop-again : tie.Need-loop-again Inv-loop μ-loop
+loop-again c =
+    let l = c .before .before .before .before .loop in
+    let a = c .before .before .before .before .before .before .before .args in
+    let e : l .g * a .k + a .k - l .g * a .k ≡ a .k = omega arith in
+    (omega arith, rw (rw e at (c .re-penalty .ensures)) (iter-more _ _ _ (l .inv .1)))
+
+returns : tie.Need-returns Inv-loop μ-loop
+unfolding penaltySum
+returns c = iter-all _ (c .before .before .before .before .args .groups) _ _ (c .before .loop .inv .1) (c .before .loop .inv .0) (c .loop-test .left)
+
+pub penalties-spec : {M : Type 1} → statement M
+penalties-spec =
+    tie.close
+    (tie.spec
+    Inv-loop
+    μ-loop
+    loop-holds
+    mul-from
+    add-re-penalty
+    mul-re-penalty
+    sub-re-penalty
+    part-re-penalty-start
+    part-re-penalty-end
+    re-penalty-requires
+    add-g
+    loop-less
+    loop-again
+    returns)
