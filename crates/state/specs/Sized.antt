@@ -35,6 +35,9 @@ pub params-most : (code : ℕ) → nParamsOf code ≤ 4
 unfolding nParamsOf
 params-most code = most (eqb code 3) (eqb code 4)
 
+pub few-params : (p code : ℕ) → p ≡ nParamsOf code → p ≤ 4
+few-params p code e = rw e (params-most code)
+
 module _ (q : Problem) (h : Sized q) where
   pub effects-sized : Effects (q .effects)
   effects-sized =

@@ -79,10 +79,9 @@ pub fn start_state(code: u64, starts: &[f64], lower: &[f64], upper: &[f64]) -> S
 {
     let p = n_params(code);
     let v = starting_values(p, starts);
-    let w = adjust_scal(code, v);
-    let x = project_params(p, lower, upper, w);
+    let w = project_params(p, lower, upper, adjust_scal(code, v));
     State {
-        values: x,
+        values: w,
         effects: [0.0; 64],
     }
 }
@@ -129,8 +128,7 @@ fn try_values(
 {
     let p = n_params(code);
     let v = move_values(p, d, alpha, values);
-    let w = floor_scal(code, v);
-    project_params(p, lower, upper, w)
+    project_params(p, lower, upper, floor_scal(code, v))
 }
 
 // The effects are projected by the trial's values.

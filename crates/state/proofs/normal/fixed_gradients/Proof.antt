@@ -3,9 +3,6 @@ use borrow.Author.Needs.{needs}
 use Rattle.state.specs.Normal.{fixedGradients}
 use Rattle.state.proofs.normal.fixed_gradients.Statement.{statement}
 use Rattle.state.proofs.normal.fixed_gradients.Tie as tie
-use Rattle.state.proofs.normal.fixed_gradients.Reads as reads
-use Rattle.state.proofs.normal.fixed_gradients.Lts as lts
-use Rattle.state.proofs.normal.free.Reads as free-reads
 
 free-requires : tie.Need-free-requires
 free-requires c κs = search needs

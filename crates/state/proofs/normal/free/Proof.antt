@@ -3,9 +3,6 @@ use borrow.Author.Needs.{needs}
 use Rattle.math.specs.Loops.{pick-false, pick-true}
 use Rattle.state.proofs.normal.free.Statement.{statement}
 use Rattle.state.proofs.normal.free.Tie as tie
-use Rattle.state.proofs.normal.free.Reads as reads
-use Rattle.state.proofs.normal.free.Lts as lts
-use Rattle.math.proofs.at.Reads as at-reads
 
 at-requires : tie.Need-at-requires
 at-requires c κs = search needs

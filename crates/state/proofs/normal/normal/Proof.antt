@@ -1,3 +1,4 @@
+-- `normal`: the list holds the curves of the state, so the readings from it are the state's; then comes the prior. Assumes nothing.
 use mathlib.Core.Path.{_∙_, _≡_, refl}
 use native.Mathlib.Omega.{arith}
 use borrow.Author.Needs.{needs}
@@ -6,10 +7,6 @@ use Rattle.state.specs.Normal.{blocksOf}
 use Rattle.state.proofs.Laws.{all-fit, readings-kept}
 use Rattle.state.proofs.normal.normal.Statement.{statement}
 use Rattle.state.proofs.normal.normal.Tie as tie
-use Rattle.state.proofs.normal.normal.Reads as reads
-use Rattle.state.proofs.normal.normal.Lts as lts
-use Rattle.block_solve.proofs.normal.BlockNormal.add_prior.Reads as add-prior-reads
-use Rattle.state.proofs.normal.readings.Reads as readings-reads
 
 readings-requires : tie.Need-readings-requires
 readings-requires c κs = search needs

@@ -5,8 +5,6 @@ use borrow.Author.Tests.{eq-eqb, ne-eqb}
 use Rattle.state.specs.Normal.{randomGradients}
 use Rattle.state.proofs.normal.random_gradients.Statement.{statement}
 use Rattle.state.proofs.normal.random_gradients.Tie as tie
-use Rattle.state.proofs.normal.random_gradients.Reads as reads
-use Rattle.state.proofs.normal.random_gradients.Lts as lts
 
 shared-slice-read-j : tie.Need-shared-slice-read-j
 shared-slice-read-j c = search needs

@@ -1,3 +1,4 @@
+-- `readings`: the blocks of the readings before i, each from its curve in the list. Assumes nothing.
 use mathlib.Core.Path.{_∙_, _≡_}
 use Prim.Native.Nat.{_-_, _≤_}
 use native.Mathlib.Omega.{arith}
@@ -8,14 +9,6 @@ use Rattle.block_solve.specs.Normal.{emptyOf}
 use Rattle.state.specs.Normal.{readingIn, readingsIn}
 use Rattle.state.proofs.normal.readings.Statement.{statement}
 use Rattle.state.proofs.normal.readings.Tie as tie
-use Rattle.state.proofs.normal.readings.Reads as reads
-use Rattle.state.proofs.normal.readings.Lts as lts
-use Rattle.block_solve.proofs.normal.BlockNormal.accumulate.Reads as accumulate-reads
-use Rattle.block_solve.proofs.normal.BlockNormal.new.Reads as new-reads
-use Rattle.curves.proofs.mean_fn.n_params.Reads as n-params-reads
-use Rattle.state.proofs.normal.fixed_gradients.Reads as fixed-gradients-reads
-use Rattle.state.proofs.normal.random_gradients.Reads as random-gradients-reads
-use Rattle.state.proofs.penalized.load_mean.Reads as load-mean-reads
 
 abbrev Inv-loop : tie.InvT-loop
 Inv-loop code effects doses grams group lower upper means p k n₀ i₀ n i = (i ≤ length doses) × (n ≡ iter (readingIn code effects doses grams group lower upper means) i emptyOf)

@@ -1,3 +1,5 @@
+-- `evaluate`: a turn stores the curve of reading i in its own five places, so those of the readings before it stay, and adds the square of its residual.
+-- Assumes nothing.
 use mathlib.Core.Path.{_∙_, _≡_, ap}
 use Prim.Native.Nat.{_*_, _+_, _-_, _<_, _≤_, ℕ}
 use native.Mathlib.Omega.{arith}
@@ -10,10 +12,6 @@ use Rattle.state.specs.Penalized.{meanAt, meanIn, squareAt, squaresOf}
 use Rattle.state.proofs.Laws.{held-more, slot-fits, stored-length}
 use Rattle.state.proofs.penalized.evaluate.Statement.{statement}
 use Rattle.state.proofs.penalized.evaluate.Tie as tie
-use Rattle.state.proofs.penalized.evaluate.Reads as reads
-use Rattle.state.proofs.penalized.evaluate.Lts as lts
-use Rattle.curves.proofs.mean_fn.eval_mean_with_re.Reads as eval-mean-with-re-reads
-use Rattle.state.proofs.penalized.store_mean.Reads as store-mean-reads
 
 abbrev Inv-loop : tie.InvT-loop
 Inv-loop code effects doses grams group means₀ v b k t₀ i₀ means t i =

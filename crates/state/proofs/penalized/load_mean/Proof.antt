@@ -3,8 +3,6 @@ use borrow.Author.Needs.{needs}
 use Rattle.state.specs.Penalized.{meanIn}
 use Rattle.state.proofs.penalized.load_mean.Statement.{statement}
 use Rattle.state.proofs.penalized.load_mean.Tie as tie
-use Rattle.state.proofs.penalized.load_mean.Reads as reads
-use Rattle.state.proofs.penalized.load_mean.Lts as lts
 
 mul-at : tie.Need-mul-at
 mul-at c = search needs

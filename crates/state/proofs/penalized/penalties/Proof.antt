@@ -1,3 +1,4 @@
+-- `penalties`: the sum of the groups before g; a group's part begins at g * k and lies within the 64 places. Assumes nothing.
 use mathlib.Core.Path.{_≡_}
 use Prim.Native.Nat.{_*_, _+_, _-_, _≤_}
 use native.Mathlib.Omega.{arith}
@@ -9,9 +10,6 @@ use Rattle.state.specs.Penalized.{penaltyAt, penaltySum}
 use Rattle.state.proofs.Laws.{slot-fits}
 use Rattle.state.proofs.penalized.penalties.Statement.{statement}
 use Rattle.state.proofs.penalized.penalties.Tie as tie
-use Rattle.state.proofs.penalized.penalties.Reads as reads
-use Rattle.state.proofs.penalized.penalties.Lts as lts
-use Rattle.re_cov.proofs.re_penalty.Reads as re-penalty-reads
 
 abbrev Inv-loop : tie.InvT-loop
 Inv-loop k theta groups b t₀ g₀ t g = (g ≤ groups) × (t ≡ iter (penaltyAt k theta b) g zero)

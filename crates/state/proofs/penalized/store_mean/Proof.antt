@@ -5,8 +5,6 @@ use lib.ListN.{length-set}
 use Rattle.state.specs.Penalized.{storedMean}
 use Rattle.state.proofs.penalized.store_mean.Statement.{statement}
 use Rattle.state.proofs.penalized.store_mean.Tie as tie
-use Rattle.state.proofs.penalized.store_mean.Reads as reads
-use Rattle.state.proofs.penalized.store_mean.Lts as lts
 
 mul-at : tie.Need-mul-at
 mul-at c = search needs

@@ -2,8 +2,6 @@ use mathlib.Core.Path.{_∙_, sym}
 use Rattle.math.specs.Loops.{pick-false, pick-true}
 use Rattle.state.proofs.project.clamp.Statement.{statement}
 use Rattle.state.proofs.project.clamp.Tie as tie
-use Rattle.state.proofs.project.clamp.Reads as reads
-use Rattle.state.proofs.project.clamp.Lts as lts
 
 returns : tie.Need-returns
 returns c = sym (pick-true _ _ _ (c .if1 .taken))

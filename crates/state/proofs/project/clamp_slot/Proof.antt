@@ -1,3 +1,4 @@
+-- `clamp_slot`: effect r of group g stands at g * k + r, below 64. Assumes nothing.
 use mathlib.Core.Path.{_≡_}
 use Prim.Native.Nat.{_-_, _≤_}
 use native.Mathlib.Omega.{arith}
@@ -7,9 +8,6 @@ use Rattle.state.specs.Project.{groupClamp, slotAt, slotOf}
 use Rattle.state.proofs.Laws.{slot-fits}
 use Rattle.state.proofs.project.clamp_slot.Statement.{statement}
 use Rattle.state.proofs.project.clamp_slot.Tie as tie
-use Rattle.state.proofs.project.clamp_slot.Reads as reads
-use Rattle.state.proofs.project.clamp_slot.Lts as lts
-use Rattle.state.proofs.project.clamp.Reads as clamp-reads
 
 abbrev Inv-loop : tie.InvT-loop
 Inv-loop k r groups lo hi beta c₀ g₀ c g = (g ≤ groups) × (c ≡ iter (slotAt k r (groupClamp lo hi beta)) g c₀)

@@ -2,9 +2,6 @@ use mathlib.Core.Path.{_∙_, refl, sym}
 use borrow.Author.Needs.{needs}
 use Rattle.state.proofs.project.one_finite.Statement.{statement}
 use Rattle.state.proofs.project.one_finite.Tie as tie
-use Rattle.state.proofs.project.one_finite.Reads as reads
-use Rattle.state.proofs.project.one_finite.Lts as lts
-use Rattle.math.proofs.is_finite.Reads as is-finite-reads
 
 is-finite-requires : tie.Need-is-finite-requires
 is-finite-requires c κs = search needs

@@ -7,9 +7,6 @@ use Rattle.math.specs.Loops.{iter, iter-all, iter-more, iter-none}
 use Rattle.state.specs.Project.{projectGroups, projectSlot}
 use Rattle.state.proofs.project.project_group_params.Statement.{statement}
 use Rattle.state.proofs.project.project_group_params.Tie as tie
-use Rattle.state.proofs.project.project_group_params.Reads as reads
-use Rattle.state.proofs.project.project_group_params.Lts as lts
-use Rattle.state.proofs.project.project_slot.Reads as project-slot-reads
 
 abbrev Inv-loop : tie.InvT-loop
 Inv-loop effects groups lower upper values c₀ r₀ c r = (r ≤ length effects) × (c ≡ iter (projectSlot effects groups lower upper values) r c₀)

@@ -7,10 +7,6 @@ use Rattle.state.specs.Lists.{each, eachAt}
 use Rattle.state.specs.Project.{clampAt, projectOf}
 use Rattle.state.proofs.project.project_params.Statement.{statement}
 use Rattle.state.proofs.project.project_params.Tie as tie
-use Rattle.state.proofs.project.project_params.Reads as reads
-use Rattle.state.proofs.project.project_params.Lts as lts
-use Rattle.math.proofs.at.Reads as at-reads
-use Rattle.state.proofs.project.clamp.Reads as clamp-reads
 
 abbrev Inv-loop : tie.InvT-loop
 Inv-loop p lower upper v₀ i₀ v i = (i ≤ p) × (v ≡ iter (eachAt (clampAt lower upper)) i v₀)

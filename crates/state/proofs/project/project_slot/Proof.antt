@@ -1,14 +1,10 @@
+-- `project_slot`: the two arms are the definition's, by its test of the bounds. Assumes nothing.
 use mathlib.Core.Path.{_∙_, sym}
 use native.Mathlib.Omega.{arith}
 use borrow.Author.Needs.{needs}
 use Rattle.math.specs.Loops.{pick-false, pick-true}
 use Rattle.state.proofs.project.project_slot.Statement.{statement}
 use Rattle.state.proofs.project.project_slot.Tie as tie
-use Rattle.state.proofs.project.project_slot.Reads as reads
-use Rattle.state.proofs.project.project_slot.Lts as lts
-use Rattle.math.proofs.at.Reads as at-reads
-use Rattle.state.proofs.project.clamp_slot.Reads as clamp-slot-reads
-use Rattle.state.proofs.project.one_finite.Reads as one-finite-reads
 
 mul-j : tie.Need-mul-j
 mul-j c = search needs

@@ -3,9 +3,6 @@ use borrow.Author.Needs.{needs}
 use Rattle.math.specs.Loops.{pick-false, pick-true}
 use Rattle.state.proofs.trial.adjust.Statement.{statement}
 use Rattle.state.proofs.trial.adjust.Tie as tie
-use Rattle.state.proofs.trial.adjust.Reads as reads
-use Rattle.state.proofs.trial.adjust.Lts as lts
-use Rattle.math.proofs.abs.Reads as abs-reads
 
 abs-requires : tie.Need-abs-requires
 abs-requires c κs = search needs

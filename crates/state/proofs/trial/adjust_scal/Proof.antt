@@ -4,9 +4,6 @@ use borrow.Author.Tests.{eq-eqb, ne-eqb}
 use Rattle.state.specs.Trial.{onScal}
 use Rattle.state.proofs.trial.adjust_scal.Statement.{statement}
 use Rattle.state.proofs.trial.adjust_scal.Tie as tie
-use Rattle.state.proofs.trial.adjust_scal.Reads as reads
-use Rattle.state.proofs.trial.adjust_scal.Lts as lts
-use Rattle.state.proofs.trial.adjust.Reads as adjust-reads
 
 array-read-adjust : tie.Need-array-read-adjust
 array-read-adjust c = search needs

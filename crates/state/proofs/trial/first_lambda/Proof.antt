@@ -3,8 +3,6 @@ use borrow.Author.Tests.{eq-eqb, ne-eqb}
 use Rattle.state.specs.Trial.{lambdaOf}
 use Rattle.state.proofs.trial.first_lambda.Statement.{statement}
 use Rattle.state.proofs.trial.first_lambda.Tie as tie
-use Rattle.state.proofs.trial.first_lambda.Reads as reads
-use Rattle.state.proofs.trial.first_lambda.Lts as lts
 
 returns : tie.Need-returns
 unfolding lambdaOf

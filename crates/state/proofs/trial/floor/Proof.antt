@@ -2,8 +2,6 @@ use mathlib.Core.Path.{sym}
 use Rattle.math.specs.Loops.{pick-false, pick-true}
 use Rattle.state.proofs.trial.floor.Statement.{statement}
 use Rattle.state.proofs.trial.floor.Tie as tie
-use Rattle.state.proofs.trial.floor.Reads as reads
-use Rattle.state.proofs.trial.floor.Lts as lts
 
 returns : tie.Need-returns
 returns c = sym (pick-true _ _ _ (c .if1 .taken))

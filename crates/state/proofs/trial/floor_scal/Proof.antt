@@ -4,9 +4,6 @@ use borrow.Author.Tests.{eq-eqb, ne-eqb}
 use Rattle.state.specs.Trial.{onScal}
 use Rattle.state.proofs.trial.floor_scal.Statement.{statement}
 use Rattle.state.proofs.trial.floor_scal.Tie as tie
-use Rattle.state.proofs.trial.floor_scal.Reads as reads
-use Rattle.state.proofs.trial.floor_scal.Lts as lts
-use Rattle.state.proofs.trial.floor.Reads as floor-reads
 
 array-read-floor : tie.Need-array-read-floor
 array-read-floor c = search needs

@@ -8,10 +8,6 @@ use Rattle.math.specs.Loops.{iter, iter-all, iter-more, iter-none}
 use Rattle.state.specs.Trial.{largerAt, largestOf}
 use Rattle.state.proofs.trial.largest.Statement.{statement}
 use Rattle.state.proofs.trial.largest.Tie as tie
-use Rattle.state.proofs.trial.largest.Reads as reads
-use Rattle.state.proofs.trial.largest.Lts as lts
-use Rattle.math.proofs.abs.Reads as abs-reads
-use Rattle.math.proofs.max.Reads as max-reads
 
 abbrev Inv-loop : tie.InvT-loop
 Inv-loop d t₀ i₀ t i = (i ≤ length d) × (t ≡ iter (largerAt d) i zero)

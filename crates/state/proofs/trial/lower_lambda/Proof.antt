@@ -2,9 +2,6 @@ use borrow.Author.Needs.{needs}
 use Rattle.state.specs.Trial.{lowered}
 use Rattle.state.proofs.trial.lower_lambda.Statement.{statement}
 use Rattle.state.proofs.trial.lower_lambda.Tie as tie
-use Rattle.state.proofs.trial.lower_lambda.Reads as reads
-use Rattle.state.proofs.trial.lower_lambda.Lts as lts
-use Rattle.math.proofs.max.Reads as max-reads
 
 max-requires : tie.Need-max-requires
 max-requires c κs = search needs

@@ -6,8 +6,6 @@ use Rattle.state.specs.Lists.{each, eachAt}
 use Rattle.state.specs.Trial.{movedAt, movedOf}
 use Rattle.state.proofs.trial.move_effects.Statement.{statement}
 use Rattle.state.proofs.trial.move_effects.Tie as tie
-use Rattle.state.proofs.trial.move_effects.Reads as reads
-use Rattle.state.proofs.trial.move_effects.Lts as lts
 
 abbrev Inv-loop : tie.InvT-loop
 Inv-loop n p d alpha c₀ j₀ c j = (j ≤ n) × (c ≡ iter (eachAt (movedAt p d alpha)) j c₀)

@@ -1,3 +1,4 @@
+-- `move_values`: the definition reads d from place 0 on, at 0 + j. Assumes nothing.
 use mathlib.Core.Path.{_∙_, _≡_, ap, sym}
 use Prim.Native.Nat.{_-_, _≤_}
 use native.Mathlib.Omega.{arith}
@@ -10,8 +11,6 @@ use Rattle.state.specs.Trial.{movedAt, movedOf}
 use lib.Ieee.{nan}
 use Rattle.state.proofs.trial.move_values.Statement.{statement}
 use Rattle.state.proofs.trial.move_values.Tie as tie
-use Rattle.state.proofs.trial.move_values.Reads as reads
-use Rattle.state.proofs.trial.move_values.Lts as lts
 
 abbrev Inv-loop : tie.InvT-loop
 Inv-loop p d alpha v₀ j₀ v j = (j ≤ p) × (v ≡ iter (eachAt (movedAt 0 d alpha)) j v₀)

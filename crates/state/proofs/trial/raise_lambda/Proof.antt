@@ -2,9 +2,6 @@ use borrow.Author.Needs.{needs}
 use Rattle.state.specs.Trial.{raised}
 use Rattle.state.proofs.trial.raise_lambda.Statement.{statement}
 use Rattle.state.proofs.trial.raise_lambda.Tie as tie
-use Rattle.state.proofs.trial.raise_lambda.Reads as reads
-use Rattle.state.proofs.trial.raise_lambda.Lts as lts
-use Rattle.math.proofs.min.Reads as min-reads
 
 min-requires : tie.Need-min-requires
 min-requires c κs = search needs

@@ -7,9 +7,6 @@ use Rattle.state.specs.Lists.{each, eachAt}
 use Rattle.state.specs.Trial.{startAt, started}
 use Rattle.state.proofs.trial.starting_values.Statement.{statement}
 use Rattle.state.proofs.trial.starting_values.Tie as tie
-use Rattle.state.proofs.trial.starting_values.Reads as reads
-use Rattle.state.proofs.trial.starting_values.Lts as lts
-use Rattle.math.proofs.at.Reads as at-reads
 
 abbrev Inv-loop : tie.InvT-loop
 Inv-loop p starts v₀ i₀ v i = (i ≤ p) × (v ≡ iter (eachAt (startAt starts)) i v₀)

@@ -8,10 +8,6 @@ use Rattle.math.specs.Loops.{iter, iter-all, iter-more, iter-none}
 use Rattle.state.specs.Trial.{longerAt, stepOf}
 use Rattle.state.proofs.trial.step_size.Statement.{statement}
 use Rattle.state.proofs.trial.step_size.Tie as tie
-use Rattle.state.proofs.trial.step_size.Reads as reads
-use Rattle.state.proofs.trial.step_size.Lts as lts
-use Rattle.math.proofs.abs.Reads as abs-reads
-use Rattle.math.proofs.max.Reads as max-reads
 
 abbrev Inv-loop : tie.InvT-loop
 Inv-loop alpha d t₀ i₀ t i = (i ≤ length d) × (t ≡ iter (longerAt alpha d) i zero)

@@ -5,11 +5,6 @@ use Rattle.state.specs.Trial.{effectsTried}
 use Rattle.state.proofs.Laws.{all-fit}
 use Rattle.state.proofs.trial.try_effects.Statement.{statement}
 use Rattle.state.proofs.trial.try_effects.Tie as tie
-use Rattle.state.proofs.trial.try_effects.Reads as reads
-use Rattle.state.proofs.trial.try_effects.Lts as lts
-use Rattle.curves.proofs.mean_fn.n_params.Reads as n-params-reads
-use Rattle.state.proofs.project.project_group_params.Reads as project-group-params-reads
-use Rattle.state.proofs.trial.move_effects.Reads as move-effects-reads
 
 n-params-requires : tie.Need-n-params-requires
 n-params-requires c κs = search needs

@@ -3,10 +3,6 @@ use borrow.Author.Needs.{needs}
 use Rattle.state.specs.Trial.{triedFrom}
 use Rattle.state.proofs.trial.try_step.Statement.{statement}
 use Rattle.state.proofs.trial.try_step.Tie as tie
-use Rattle.state.proofs.trial.try_step.Reads as reads
-use Rattle.state.proofs.trial.try_step.Lts as lts
-use Rattle.state.proofs.trial.try_effects.Reads as try-effects-reads
-use Rattle.state.proofs.trial.try_values.Reads as try-values-reads
 
 try-values-requires : tie.Need-try-values-requires
 try-values-requires c κs = search needs
