@@ -1,5 +1,5 @@
-//! Answers cases by libkemroul.a. Each operation is behind the feature of its name, so that the program links with
-//! an archive that has only some.
+//! Answers cases by libkemroul.a. Each operation is behind the feature of its name, so that programs link with an
+//! archive that has only some.
 
 use text::{Answer, Case, KEPT, KEPT_WHOLE};
 
@@ -25,7 +25,7 @@ macro_rules! problem_pointers {
 
 /// include/kemroul.h.
 #[allow(unused_macros)]
-mod boundary {
+pub mod boundary {
     macro_rules! with_problem {
         ($(#[$feature:meta])* fn $function:ident ($($name:ident: $type:ty),* $(,)?)) => {
             extern "C" {
@@ -131,7 +131,7 @@ impl Lent {
     }
 }
 
-fn answer(case: &Case) -> Answer {
+pub fn answer(case: &Case) -> Answer {
     match case {
         #[cfg(feature = "exp")]
         Case::Exp(x) => Answer::Float(unsafe { boundary::kemroul_exp(*x) }),
@@ -304,8 +304,4 @@ fn answer(case: &Case) -> Answer {
             std::process::exit(2);
         }
     }
-}
-
-fn main() {
-    text::serve(answer, |_, _| {});
 }
