@@ -31,9 +31,53 @@ fn problem(p: &Problem) -> (NlmmProblem, NlmmStart) {
     (problem, start)
 }
 
+/// A problem and its start in the Rust's own types, from which each operation is one call.
+pub struct Ready {
+    problem: NlmmProblem,
+    start: NlmmStart,
+}
+
+impl Ready {
+    pub fn new(p: &Problem) -> Self {
+        let (problem, start) = problem(p);
+        Self { problem, start }
+    }
+
+    /// The values, the effects, the sum of squares, whether it converged, and the rounds.
+    pub fn fit(&self, theta: &[f64], max_rounds: u64) -> (Vec<f64>, Array1<f64>, f64, bool, usize) {
+        self.problem
+            .inner_gauss_newton_status(theta, &self.start, max_rounds as usize)
+    }
+
+    /// The criterion, the values, sigma2 and the effects.
+    pub fn criterion(
+        &self,
+        theta: &[f64],
+        max_rounds: u64,
+        reml: bool,
+        n_agq: u64,
+    ) -> (f64, Vec<f64>, f64, Array1<f64>) {
+        self.problem
+            .profile_objective(theta, &self.start, reml, max_rounds as usize, n_agq as usize)
+    }
+
+    /// Theta, the criterion, the narrowings and whether it converged. The ends are those of `optimize_nlmm_at_start`.
+    pub fn search(&self, max_rounds: u64, reml: bool, n_agq: u64, max_narrowings: u64) -> (f64, f64, u64, bool) {
+        optimize_theta_golden(
+            &self.problem,
+            &self.start,
+            reml,
+            max_rounds as usize,
+            n_agq as usize,
+            0.2,
+            20.0,
+            max_narrowings,
+        )
+    }
+}
+
 pub fn fit(p: &Problem, theta: &[f64], max_rounds: u64) -> Answer {
-    let (problem, start) = problem(p);
-    let (values, b, rss, converged, rounds) = problem.inner_gauss_newton_status(theta, &start, max_rounds as usize);
+    let (values, b, rss, converged, rounds) = Ready::new(p).fit(theta, max_rounds);
     Answer::Fit {
         number: 0,
         values,
@@ -46,9 +90,7 @@ pub fn fit(p: &Problem, theta: &[f64], max_rounds: u64) -> Answer {
 }
 
 pub fn criterion(p: &Problem, theta: &[f64], max_rounds: u64, reml: bool, n_agq: u64) -> Answer {
-    let (problem, start) = problem(p);
-    let (criterion, values, sigma2, b) =
-        problem.profile_objective(theta, &start, reml, max_rounds as usize, n_agq as usize);
+    let (criterion, values, sigma2, b) = Ready::new(p).criterion(theta, max_rounds, reml, n_agq);
     Answer::Criterion {
         number: 0,
         values,
@@ -58,20 +100,10 @@ pub fn criterion(p: &Problem, theta: &[f64], max_rounds: u64, reml: bool, n_agq:
     }
 }
 
-/// The ends are those of `optimize_nlmm_at_start`.
 pub fn search(p: &Problem, max_rounds: u64, reml: bool, n_agq: u64, max_narrowings: u64) -> Answer {
-    let (problem, start) = problem(p);
+    let ready = Ready::new(p);
     hooks::reset();
-    let (theta, criterion, narrowings, converged) = optimize_theta_golden(
-        &problem,
-        &start,
-        reml,
-        max_rounds as usize,
-        n_agq as usize,
-        0.2,
-        20.0,
-        max_narrowings,
-    );
+    let (theta, criterion, narrowings, converged) = ready.search(max_rounds, reml, n_agq, max_narrowings);
     Answer::Search {
         number: 0,
         theta,

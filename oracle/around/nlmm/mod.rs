@@ -6,6 +6,7 @@ pub mod formula;
 pub mod mean;
 pub mod mean_fn;
 pub mod re_cov;
+pub mod ready;
 pub mod self_start;
 pub mod ssasymp;
 pub mod ssfpl;
