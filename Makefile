@@ -7,6 +7,8 @@
 #   make strictmath      compares the oracle's exp, ln and sqrt with Java's StrictMath
 #   make distance        how far the unreplaced Rust (std's exp, ln, max, min; LAPACK) lies from the replaced one
 #   make sample          writes SAMPLE answered lines of OP to OUT
+#   make bench           times of the archive's operations and of the Rust's, on the same cases (bench/README.md)
+#   make instructions    their machine instructions, counted by callgrind
 
 # The folder that holds the published Rust, as src/nlmm/fit.rs and so on.
 SOURCE ?= ../shared/docs/src
@@ -29,7 +31,16 @@ SAMPLE ?= 200
 LONGEST ?= 4000
 OUT ?= target/sample-$(OP).txt
 
+# The operations that are measured; of one that the archive lacks, the Rust alone.
+BENCH_OPS ?= $(OPS)
+BENCH_LINES ?= 2000
+# How long each line of the table of times is measured.
+BENCH_SECONDS ?= 3
+# UNREPLACED=1 measures the whole of the unreplaced Rust too, which needs LAPACK.
+UNREPLACED ?=
+
 .PHONY: differential compare oracle oracle-test copy archive driver strictmath distance sample
+.PHONY: bench instructions bench-program machine
 
 copy:
 	@python3 oracle/copy_source.py $(SOURCE) oracle/target/copy
@@ -44,9 +55,10 @@ archive:
 	$(RT) staticlib kemroul
 
 # OPS may give a count, as in fit=5000; the features are the names alone.
+FEATURES = $(foreach op,$(OPS),$(firstword $(subst =, ,$(op))))
+
 driver: oracle
-	@cd oracle && KEMROUL_ARCHIVE_DIR=$(abspath $(ARCHIVE_DIR)) $(CARGO) -p driver \
-	  --features "$(foreach op,$(OPS),$(firstword $(subst =, ,$(op))))"
+	@cd oracle && KEMROUL_ARCHIVE_DIR=$(abspath $(ARCHIVE_DIR)) $(CARGO) -p driver --features "$(FEATURES)"
 
 differential: archive
 	@$(MAKE) --no-print-directory compare
@@ -73,3 +85,21 @@ sample: oracle
 	@mkdir -p $(dir $(OUT))
 	@$(BIN)/gen --longest $(LONGEST) $(SEED) $(SAMPLE) $(OP)=$(SAMPLE) | $(BIN)/oracle > $(OUT)
 	@echo "$$(wc -l < $(OUT)) lines of $(OP), seed $(SEED), in $(OUT)"
+
+# The archive as it stands: `make archive bench` brings it up to date first.
+bench-program: oracle
+	@cd oracle && KEMROUL_ARCHIVE_DIR=$(abspath $(ARCHIVE_DIR)) $(CARGO) -p bench \
+	  --features "$(FEATURES) $(if $(UNREPLACED),unreplaced)"
+
+machine:
+	@echo "$$(date -u +%F), $$(lscpu | sed -n 's/^Model name: *//p'), $$(rustc --version)"
+
+bench: bench-program machine
+	@echo "realistic cases, seed $(SEED)"
+	@$(BIN)/gen --realistic $(SEED) $(BENCH_LINES) $(BENCH_OPS) | $(BIN)/bench times $(BENCH_SECONDS)
+
+instructions: bench-program machine
+	@echo "single calls"
+	@$(BIN)/bench single
+	@echo "realistic cases, seed $(SEED)"
+	@$(BIN)/gen --realistic $(SEED) $(BENCH_LINES) $(BENCH_OPS) | $(BIN)/bench instructions

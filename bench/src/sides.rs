@@ -1,0 +1,227 @@
+//! The sides that are compared. Each makes its arguments ready first; what it returns then answers every case once,
+//! and nothing else. Arguments and results pass through `black_box`, so that no call can be dropped or moved out.
+
+use std::hint::black_box;
+use text::Case;
+
+/// Answers every case once.
+pub type Pass = Box<dyn FnMut()>;
+
+pub const SIDES: [&str; 3] = ["rust", "archive", "unreplaced"];
+
+/// None where the side does not have the operation.
+pub fn pass(side: &str, operation: &str, cases: &[Case]) -> Option<Pass> {
+    match side {
+        "rust" => rust(operation, cases),
+        "archive" => archive(operation, cases),
+        "unreplaced" => unreplaced_rust(operation, cases),
+        "empty" => Some(empty(operation, cases)),
+        _ => None,
+    }
+}
+
+fn each<T: 'static, R>(ready: Vec<T>, call: impl Fn(&T) -> R + 'static) -> Pass {
+    Box::new(move || {
+        for one in &ready {
+            black_box(call(black_box(one)));
+        }
+    })
+}
+
+fn floats(cases: &[Case]) -> Vec<f64> {
+    let float = |case: &Case| match case {
+        Case::Exp(x) | Case::Ln(x) | Case::Sqrt(x) => *x,
+        other => unreachable!("{other:?}"),
+    };
+    cases.iter().map(float).collect()
+}
+
+fn wholes(cases: &[Case]) -> Vec<u64> {
+    let whole = |case: &Case| match case {
+        Case::GhOrder(asked) => *asked,
+        other => unreachable!("{other:?}"),
+    };
+    cases.iter().map(whole).collect()
+}
+
+/// The loop without a call.
+fn empty(operation: &str, cases: &[Case]) -> Pass {
+    match operation {
+        "exp" | "ln" | "sqrt" => each(floats(cases), |x| *x),
+        "gh_order" => each(wholes(cases), |asked| *asked),
+        _ => each(cases.to_vec(), |_| ()),
+    }
+}
+
+/// The published functions, as the crate `$variant` has them.
+macro_rules! published {
+    ($variant:ident, $operation:ident, $cases:ident) => {{
+        use $variant::nlmm::fit::access::Ready;
+        use $variant::nlmm::ready::{gh_order, Curve, Direction, Start};
+        match $operation {
+            "gh_order" => Some(each(wholes($cases), |asked| gh_order(*asked))),
+            "curve" => {
+                let ready = $cases.iter().map(|case| match case {
+                    Case::Curve { code, values, dose } => Curve::new(*code, values, *dose),
+                    other => unreachable!("{other:?}"),
+                });
+                Some(each(ready.collect(), |curve| curve.call()))
+            }
+            "start" => {
+                let ready = $cases.iter().map(|case| match case {
+                    Case::Start { code, doses, grams, .. } => Start::new(*code, doses, grams),
+                    other => unreachable!("{other:?}"),
+                });
+                Some(each(ready.collect(), |start| start.call()))
+            }
+            "direction" => {
+                let ready = $cases.iter().map(|case| match case {
+                    Case::Fit { problem, theta, .. } => Direction::new(problem, theta, DAMPING),
+                    other => unreachable!("{other:?}"),
+                });
+                Some(each(ready.collect(), |direction| {
+                    direction.call().expect("these blocks have one")
+                }))
+            }
+            "fit" => {
+                let ready = $cases.iter().map(|case| match case {
+                    Case::Fit {
+                        problem,
+                        theta,
+                        max_rounds,
+                        ..
+                    } => (Ready::new(problem), theta.clone(), *max_rounds),
+                    other => unreachable!("{other:?}"),
+                });
+                Some(each(ready.collect(), |(ready, theta, rounds)| {
+                    ready.fit(theta, *rounds)
+                }))
+            }
+            "criterion" => {
+                let ready = $cases.iter().map(|case| match case {
+                    Case::Criterion {
+                        problem,
+                        theta,
+                        max_rounds,
+                        reml,
+                        n_agq,
+                        ..
+                    } => (Ready::new(problem), theta.clone(), (*max_rounds, *reml != 0, *n_agq)),
+                    other => unreachable!("{other:?}"),
+                });
+                Some(each(ready.collect(), |(ready, theta, (rounds, reml, order))| {
+                    ready.criterion(theta, *rounds, *reml, *order)
+                }))
+            }
+            "search" => {
+                let ready = $cases.iter().map(|case| match case {
+                    Case::Search {
+                        problem,
+                        max_rounds,
+                        reml,
+                        n_agq,
+                        max_narrowings,
+                    } => (Ready::new(problem), (*max_rounds, *reml != 0, *n_agq, *max_narrowings)),
+                    other => unreachable!("{other:?}"),
+                });
+                Some(each(ready.collect(), |(ready, (rounds, reml, order, narrowings))| {
+                    ready.search(*rounds, *reml, *order, *narrowings)
+                }))
+            }
+            _ => None,
+        }
+    }};
+}
+
+/// The damping that inner_gauss_newton_status begins with, but for curve 2 with one effect.
+const DAMPING: f64 = 1e-4;
+
+/// The published Rust with document 01's list replaced. Its sqrt is std's, an instruction.
+fn rust(operation: &str, cases: &[Case]) -> Option<Pass> {
+    Some(match operation {
+        "exp" => each(floats(cases), |x| fdlibm::exp(*x)),
+        "ln" => each(floats(cases), |x| fdlibm::ln(*x)),
+        "sqrt" => each(floats(cases), |x| x.sqrt()),
+        _ => return published!(replaced, operation, cases),
+    })
+}
+
+/// The published Rust as it stands: std's exp and ln are the system's libm, solve and inverse are LAPACK's.
+fn unreplaced_rust(operation: &str, cases: &[Case]) -> Option<Pass> {
+    Some(match operation {
+        "exp" => each(floats(cases), |x| x.exp()),
+        "ln" => each(floats(cases), |x| x.ln()),
+        "sqrt" => each(floats(cases), |x| x.sqrt()),
+        #[cfg(feature = "unreplaced")]
+        _ => return published!(unreplaced, operation, cases),
+        #[cfg(not(feature = "unreplaced"))]
+        _ => return None,
+    })
+}
+
+/// libkemroul.a. A direction joins here when the archive exports one.
+fn archive(operation: &str, cases: &[Case]) -> Option<Pass> {
+    #[allow(unused_imports)]
+    use driver::boundary;
+    Some(match operation {
+        #[cfg(feature = "exp")]
+        "exp" => each(floats(cases), |x| unsafe { boundary::kemroul_exp(*x) }),
+        #[cfg(feature = "ln")]
+        "ln" => each(floats(cases), |x| unsafe { boundary::kemroul_ln(*x) }),
+        #[cfg(feature = "sqrt")]
+        "sqrt" => each(floats(cases), |x| unsafe { boundary::kemroul_sqrt(*x) }),
+        #[cfg(feature = "gh_order")]
+        "gh_order" => each(wholes(cases), |asked| unsafe { boundary::kemroul_gh_order(*asked) }),
+        #[cfg(feature = "curve")]
+        "curve" => {
+            let ready = cases.iter().map(|case| match case {
+                Case::Curve { code, values, dose } => (*code, values.clone(), *dose),
+                other => unreachable!("{other:?}"),
+            });
+            each(ready.collect(), |(code, values, dose)| {
+                let [mut mu, mut d0, mut d1, mut d2, mut d3] = [0.0; 5];
+                let number = unsafe {
+                    boundary::kemroul_curve(
+                        *code,
+                        values.as_ptr(),
+                        values.len(),
+                        *dose,
+                        &mut mu,
+                        &mut d0,
+                        &mut d1,
+                        &mut d2,
+                        &mut d3,
+                    )
+                };
+                (number, [mu, d0, d1, d2, d3])
+            })
+        }
+        // The driver's call makes its lent lists anew: a few allocations beside a whole fit.
+        #[cfg(feature = "start")]
+        "start" => each(cases.to_vec(), driver::answer),
+        #[cfg(feature = "fit")]
+        "fit" => each(cases.to_vec(), driver::answer),
+        #[cfg(feature = "criterion")]
+        "criterion" => each(cases.to_vec(), driver::answer),
+        #[cfg(feature = "search")]
+        "search" => each(cases.to_vec(), driver::answer),
+        _ => {
+            let _ = cases;
+            return None;
+        }
+    })
+}
+
+/// The first case that the archive and the Rust answer differently, of an operation that both have.
+pub fn difference(operation: &str, cases: &[Case]) -> Option<String> {
+    let _ = archive(operation, cases)?;
+    let line = |answer: text::Answer| {
+        let mut line = text::Line::default();
+        line.answer(&answer);
+        line.0
+    };
+    cases.iter().find_map(|case| {
+        let (rust, archive) = (line(replaced::operations::answer(case)), line(driver::answer(case)));
+        (rust != archive).then(|| format!("{case:?}: the Rust {rust}, the archive {archive}"))
+    })
+}
