@@ -1,6 +1,6 @@
 //! Compares what the archive's operations cost with what the published Rust's cost, on the same cases.
 //!
-//!     bench times SECONDS < cases     nanoseconds per call, SECONDS of measuring for each line of the table
+//!     bench times SECONDS < cases     nanoseconds per call; each line of the table is measured for SECONDS
 //!     bench instructions < cases      machine instructions per call, the mean of the operation's cases
 //!     bench single                    machine instructions of single calls, on fixed cases
 //!     bench count SIDE OPERATION      for the two above, which run it under callgrind
@@ -8,6 +8,7 @@
 //! README.md says what is included.
 
 mod cases;
+mod clock;
 mod instructions;
 mod sides;
 mod times;

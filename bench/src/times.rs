@@ -1,13 +1,15 @@
-//! Nanoseconds per call. Each side runs in bursts of a fraction of a millisecond where the cases allow it, the sides
-//! in turn, so that what else the machine does meets them alike; the shortest burst of each counts.
+//! Nanoseconds of processor time per call. Each side runs in bursts of a fraction of a millisecond where the cases
+//! allow it, the sides in turn, so that what else the machine does meets them alike; the shortest burst of each counts.
 
 use crate::cases::Group;
+use crate::clock::time;
 use crate::sides::{difference, pass, Pass, SIDES};
 use crate::{column, fail};
 use std::time::{Duration, Instant};
 
 const BURST: Duration = Duration::from_micros(300);
 const LEAST_BURSTS: usize = 5;
+const MOST_PASSES: u32 = 1 << 20;
 
 /// One side's calls for a part of the cases.
 struct Side {
@@ -16,29 +18,29 @@ struct Side {
     shortest: Duration,
 }
 
-fn once(pass: &mut Pass) -> Duration {
-    let begun = Instant::now();
-    pass();
-    begun.elapsed().max(Duration::from_nanos(1))
-}
-
 impl Side {
-    fn new(mut pass: Pass) -> Self {
-        pass();
-        let once = once(&mut pass);
-        Self {
+    /// With as many passes to a burst as fill it.
+    fn new(pass: Pass) -> Self {
+        let mut side = Self {
             pass,
-            passes: (BURST.as_nanos() / once.as_nanos()).clamp(1, 1 << 20) as u32,
+            passes: 1,
             shortest: Duration::MAX,
+        };
+        while side.burst() < BURST / 2 && side.passes < MOST_PASSES {
+            side.passes *= 2;
         }
+        side.shortest = Duration::MAX;
+        side
     }
 
-    fn burst(&mut self) {
-        let begun = Instant::now();
-        for _ in 0..self.passes {
-            (self.pass)();
-        }
-        self.shortest = self.shortest.min(begun.elapsed());
+    fn burst(&mut self) -> Duration {
+        let taken = time(|| {
+            for _ in 0..self.passes {
+                (self.pass)();
+            }
+        });
+        self.shortest = self.shortest.min(taken);
+        taken
     }
 
     /// Of the part's cases together.
@@ -49,8 +51,8 @@ impl Side {
 
 /// How many cases one burst takes; one of them may take longer.
 fn part_length(group: &Group) -> usize {
-    let mut pass = pass("rust", group.operation, &group.cases).expect("the Rust has every operation");
-    let fraction = BURST.as_secs_f64() / once(&mut pass).as_secs_f64();
+    let pass = pass("rust", group.operation, &group.cases).expect("the Rust has every operation");
+    let fraction = BURST.as_secs_f64() / time(pass).as_secs_f64();
     ((group.cases.len() as f64 * fraction) as usize).clamp(1, group.cases.len())
 }
 
