@@ -197,9 +197,35 @@ fn archive(operation: &str, cases: &[Case]) -> Option<Pass> {
                 (number, [mu, d0, d1, d2, d3])
             })
         }
-        // The driver's call makes its lent lists anew: a few allocations beside a whole fit.
         #[cfg(feature = "start")]
-        "start" => each(cases.to_vec(), driver::answer),
+        "start" => {
+            let ready = cases.iter().map(|case| match case {
+                Case::Start {
+                    code,
+                    doses,
+                    grams,
+                    n_values,
+                } => (*code, doses.clone(), grams.clone(), *n_values),
+                other => unreachable!("{other:?}"),
+            });
+            each(ready.collect(), |(code, doses, grams, n_values)| {
+                let mut values = [0.0; 4];
+                let lent = &mut values[..*n_values];
+                let number = unsafe {
+                    boundary::kemroul_start(
+                        *code,
+                        doses.as_ptr(),
+                        doses.len(),
+                        grams.as_ptr(),
+                        grams.len(),
+                        lent.as_mut_ptr(),
+                        lent.len(),
+                    )
+                };
+                (number, values)
+            })
+        }
+        // The driver's call makes its lent lists anew: a few allocations beside a whole fit.
         #[cfg(feature = "fit")]
         "fit" => each(cases.to_vec(), driver::answer),
         #[cfg(feature = "criterion")]
