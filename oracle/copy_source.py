@@ -157,6 +157,10 @@ def main():
     around = {str(path.relative_to(here / "around")): path.read_text() for path in sorted((here / "around").rglob("*.rs"))}
     # fit.rs is the parent of access.rs.
     around["nlmm/fit/access.rs"] = around.pop("nlmm/access.rs")
+    # block_solve.rs is the parent of block_access.rs.
+    around["nlmm/block_solve/access.rs"] = around.pop("nlmm/block_access.rs")
+    text, counts = texts["nlmm/block_solve.rs"]
+    texts["nlmm/block_solve.rs"] = (text + "\npub mod access;\n", counts)
     # The operations exp and ln are replaced like the rest.
     texts["operations.rs"] = (around.pop("operations.rs"), (1, 1, 0, 0, 0))
 

@@ -1,11 +1,14 @@
-//! Document 01's operations over the published Rust: refusals first, then lists by position in the place of names.
+//! Document 01's operations over the published Rust: refusals first, then lists by position in the place of names;
+//! and the linear algebra below them.
 
+use crate::nlmm::block_solve;
 use crate::nlmm::fit::access;
 use crate::nlmm::formula::NlmmMeanKind;
 use crate::nlmm::mean_fn::NlmmMeanEval;
 use crate::nlmm::self_start::self_start;
 use crate::quadrature::resolve_gh_order;
-use ndarray::Array1;
+use ndarray::{Array1, Array2};
+use ndarray_linalg::{Cholesky, Inverse, Solve, UPLO};
 use text::{Answer, Case, KEPT, KEPT_WHOLE};
 
 pub fn kind(code: u64) -> NlmmMeanKind {
@@ -52,6 +55,21 @@ fn start(code: u64, doses: &[f64], grams: &[f64], n_values: usize) -> Answer {
         values = names.iter().map(|name| by_name[name]).collect();
     }
     Answer::Start { number, values }
+}
+
+/// A matrix from its entries row after row.
+pub fn matrix(rows: usize, columns: usize, entries: &[f64]) -> Array2<f64> {
+    let mut out = Array2::zeros((rows, columns));
+    for row in 0..rows {
+        for column in 0..columns {
+            out[[row, column]] = entries[row * columns + column];
+        }
+    }
+    out
+}
+
+fn entries(matrix: Array2<f64>) -> Vec<f64> {
+    matrix.entries().to_vec()
 }
 
 pub fn answer(case: &Case) -> Answer {
@@ -120,5 +138,12 @@ pub fn answer(case: &Case) -> Answer {
                 fits: KEPT_WHOLE,
             },
         },
+        Case::Solve { n, a, b } => {
+            let solved = matrix(*n, *n, a).solve(&Array1::from_vec(b.clone()));
+            Answer::Found(solved.ok().map(|x| x.to_vec()))
+        }
+        Case::Inverse(a) => Answer::Found(matrix(2, 2, a).inv().ok().map(entries)),
+        Case::Cholesky(a) => Answer::Found(matrix(2, 2, a).cholesky(UPLO::Lower).ok().map(entries)),
+        Case::Direction { blocks, damping } => Answer::Found(block_solve::access::direction(blocks, *damping)),
     }
 }

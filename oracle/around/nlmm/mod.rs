@@ -1,6 +1,6 @@
 //! The modules in scope, and stand-ins for what they name and is not published with them.
 
-mod block_solve;
+pub mod block_solve;
 pub mod fit;
 pub mod formula;
 pub mod mean;

@@ -163,7 +163,7 @@ pub fn gh_order_random(r: &mut Random, kind: usize) -> Case {
 pub const P: [usize; 5] = [0, 3, 3, 2, 4];
 
 /// Every list of `length` elements of `of`.
-fn tuples(of: &[f64], length: usize) -> Vec<Vec<f64>> {
+pub fn tuples(of: &[f64], length: usize) -> Vec<Vec<f64>> {
     (0..length).fold(vec![vec![]], |lists, _| {
         lists
             .iter()

@@ -12,6 +12,7 @@
 
 mod fits;
 mod leaves;
+mod linear;
 mod random;
 mod starts;
 
@@ -43,6 +44,10 @@ fn by_hand(operation: &str) -> Vec<Vec<Case>> {
         "fit" => fits::directed(Operation::Fit),
         "criterion" => fits::directed(Operation::Criterion),
         "search" => fits::directed(Operation::Search),
+        "solve" => linear::solve(),
+        "inverse" => linear::inverse(),
+        "cholesky" => linear::cholesky(),
+        "direction" => linear::direction(),
         other => fail(&format!("no operation '{other}'")),
     }
 }
@@ -57,6 +62,10 @@ fn at_random(operation: &str, r: &mut Random, kind: usize) -> Case {
         "start" => starts::start_random(r, kind),
         "fit" => fits::random(r, kind, Operation::Fit),
         "criterion" => fits::random(r, kind, Operation::Criterion),
+        "solve" => linear::solve_random(r, kind),
+        "inverse" => linear::inverse_random(r, kind),
+        "cholesky" => linear::cholesky_random(r, kind),
+        "direction" => linear::direction_random(r, kind),
         _ => fits::random(r, kind, Operation::Search),
     }
 }

@@ -2,7 +2,7 @@
 //! apart, worked out by another program over the same Rust.
 
 use replaced::operations::answer;
-use text::{Answer, Case, Problem};
+use text::{Answer, Case, Line, Problem};
 
 const INF: f64 = f64::INFINITY;
 
@@ -259,4 +259,66 @@ fn a_search_without_a_number_keeps_the_right_part() {
             other => panic!("{other:?}"),
         }
     }
+}
+
+fn found(line: &str) -> Option<Vec<f64>> {
+    match answer(&Case::read(line).unwrap()) {
+        Answer::Found(list) => list,
+        other => panic!("{other:?}"),
+    }
+}
+
+/// A case line of whole numbers, floats and lists of floats.
+fn line(name: &str, sizes: &[u64], lists: &[&[f64]], last: Option<f64>) -> String {
+    let mut out = Line::default();
+    out.word(name);
+    for &n in sizes {
+        out.whole(n);
+    }
+    for list in lists {
+        out.floats(list);
+    }
+    if let Some(x) = last {
+        out.float(x);
+    }
+    out.0
+}
+
+#[test]
+fn matrices_stand_row_after_row() {
+    let a = [4.0, 99.0, 2.0, 10.0];
+    assert_eq!(
+        found(&line("cholesky", &[], &[&a], None)),
+        Some(vec![2.0, 0.0, 1.0, 3.0])
+    );
+    let a = [0.0, 4.0, 2.0, 0.0];
+    assert_eq!(
+        found(&line("inverse", &[], &[&a], None)),
+        Some(vec![0.0, 0.5, 0.25, 0.0])
+    );
+    assert_eq!(
+        found(&line("solve", &[2], &[&a, &[8.0, 6.0]], None)),
+        Some(vec![3.0, 2.0])
+    );
+    assert_eq!(found(&line("solve", &[1], &[&[-0.0], &[1.0]], None)), None);
+    assert!(Case::read(&line("solve", &[2], &[&a, &[8.0]], None)).is_err());
+}
+
+/// Two curve values, one effect, two groups: all blocks differ, and every quotient is exact.
+#[test]
+fn a_direction_has_the_curve_values_and_then_each_group() {
+    let lists: [&[f64]; 5] = [
+        &[10.75, 1.0, 2.0, 18.0],
+        &[1.0, 2.0, 3.0, 0.0],
+        &[2.0, 4.0],
+        &[5.0, 6.0],
+        &[2.0, 8.0],
+    ];
+    assert_eq!(
+        found(&line("direction", &[2, 1, 2], &lists, Some(0.0))),
+        Some(vec![-0.25, 0.265625, 0.859375, 2.1875])
+    );
+    assert!(Case::read(&line("direction", &[2, 1, 3], &lists, Some(0.0))).is_err());
+    let lists: [&[f64]; 5] = [&[1.0], &[1.0], &[-1e-8], &[1.0], &[1.0]];
+    assert_eq!(found(&line("direction", &[1, 1, 1], &lists, Some(1.0))), None);
 }

@@ -24,6 +24,19 @@ pub struct Problem {
     pub group_upper: Vec<f64>,
 }
 
+/// The normal blocks of a direction; matrices row after row, one after the other.
+#[derive(Clone, Debug, Default)]
+pub struct Blocks {
+    pub p: usize,
+    pub k: usize,
+    pub groups: usize,
+    pub fixed: Vec<f64>,
+    pub cross: Vec<f64>,
+    pub random: Vec<f64>,
+    pub fixed_rhs: Vec<f64>,
+    pub random_rhs: Vec<f64>,
+}
+
 #[derive(Clone, Debug)]
 pub enum Case {
     Exp(f64),
@@ -64,6 +77,17 @@ pub enum Case {
         n_agq: u64,
         max_narrowings: u64,
     },
+    Solve {
+        n: usize,
+        a: Vec<f64>,
+        b: Vec<f64>,
+    },
+    Inverse(Vec<f64>),
+    Cholesky(Vec<f64>),
+    Direction {
+        blocks: Blocks,
+        damping: f64,
+    },
 }
 
 /// A refusal shows the lent outputs as they stand after the call, so each form has them all.
@@ -103,6 +127,8 @@ pub enum Answer {
         converged: u64,
         fits: u64,
     },
+    /// What the linear algebra found, if it found any.
+    Found(Option<Vec<f64>>),
 }
 
 // ---- reading
@@ -143,6 +169,39 @@ impl<'a> Words<'a> {
 
     fn wholes(&mut self) -> Read<Vec<u64>> {
         (0..self.whole()?).map(|_| self.whole()).collect()
+    }
+
+    fn floats_of(&mut self, length: usize) -> Read<Vec<f64>> {
+        let list = self.floats()?;
+        if list.len() == length {
+            Ok(list)
+        } else {
+            Err(format!("{} floats, not {length}", list.len()))
+        }
+    }
+
+    /// A whole number from 1 to `most`.
+    fn size(&mut self, most: usize) -> Read<usize> {
+        let n = self.length()?;
+        if (1..=most).contains(&n) {
+            Ok(n)
+        } else {
+            Err(format!("{n} is not between 1 and {most}"))
+        }
+    }
+
+    fn blocks(&mut self) -> Read<Blocks> {
+        let (p, k, groups) = (self.size(4)?, self.size(2)?, self.size(32)?);
+        Ok(Blocks {
+            p,
+            k,
+            groups,
+            fixed: self.floats_of(p * p)?,
+            cross: self.floats_of(groups * p * k)?,
+            random: self.floats_of(groups * k * k)?,
+            fixed_rhs: self.floats_of(p)?,
+            random_rhs: self.floats_of(groups * k)?,
+        })
     }
 
     fn length(&mut self) -> Read<usize> {
@@ -215,6 +274,20 @@ impl Case {
                 reml: w.whole()?,
                 n_agq: w.whole()?,
                 max_narrowings: w.whole()?,
+            },
+            "solve" => {
+                let n = w.size(4)?;
+                Case::Solve {
+                    n,
+                    a: w.floats_of(n * n)?,
+                    b: w.floats_of(n)?,
+                }
+            }
+            "inverse" => Case::Inverse(w.floats_of(4)?),
+            "cholesky" => Case::Cholesky(w.floats_of(4)?),
+            "direction" => Case::Direction {
+                blocks: w.blocks()?,
+                damping: w.float()?,
             },
             other => return Err(format!("no operation '{other}'")),
         };
@@ -350,6 +423,20 @@ impl Line {
                 .whole(*reml)
                 .whole(*n_agq)
                 .whole(*max_narrowings),
+            Case::Solve { n, a, b } => self.word("solve").whole(*n as u64).floats(a).floats(b),
+            Case::Inverse(a) => self.word("inverse").floats(a),
+            Case::Cholesky(a) => self.word("cholesky").floats(a),
+            Case::Direction { blocks, damping } => self
+                .word("direction")
+                .whole(blocks.p as u64)
+                .whole(blocks.k as u64)
+                .whole(blocks.groups as u64)
+                .floats(&blocks.fixed)
+                .floats(&blocks.cross)
+                .floats(&blocks.random)
+                .floats(&blocks.fixed_rhs)
+                .floats(&blocks.random_rhs)
+                .float(*damping),
         }
     }
 
@@ -407,6 +494,8 @@ impl Line {
                 .whole(*narrowings)
                 .whole(*converged)
                 .whole(*fits),
+            Answer::Found(Some(list)) => self.whole(1).floats(list),
+            Answer::Found(None) => self.whole(0),
         }
     }
 }
