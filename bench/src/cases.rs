@@ -21,6 +21,9 @@ fn operation(case: &Case) -> &'static str {
         Case::Fit { .. } => "fit",
         Case::Criterion { .. } => "criterion",
         Case::Search { .. } => "search",
+        Case::Solve { .. } | Case::Inverse(_) | Case::Cholesky(_) | Case::Direction { .. } => {
+            fail("the archive has no operation of linear algebra")
+        }
     }
 }
 
