@@ -1,7 +1,11 @@
 -- What a caller in C finds: the number that is returned, and what stands behind the pointers afterwards. Definitions only.
 use Prim.Native.Nat.{ℕ}
+use mathlib.Core.Bool.{Bool, cond}
 use mathlib.Core.List.{List, [], _∷_}
+use mathlib.Core.Option.{Option, none, some}
 use lib.Ieee.{Float}
+use Rattle.fit.specs.declared.Fitted.{Fitted}
+use Rattle.fit.specs.Answer.{Told}
 
 -- the floats of an answer, or those that stood there before, where the answer is a refusal, which has none
 abbrev pub orKept : List Float → List Float → List Float
@@ -11,3 +15,27 @@ orKept (x ∷ l) kept = x ∷ l
 -- an operation's number and floats, where `kept` stood behind the pointers before
 unfoldable pub handed : ℕ × List Float → List Float → ℕ × List Float
 handed answer kept = (answer .0, orKept (answer .1) kept)
+
+-- a flag as a number
+abbrev pub flagOf : Bool → ℕ
+flagOf b = cond b 1 0
+
+-- what a fit leaves: the number, the two lists, and the rss, whether it converged, the rounds begun and the trials behind the pointers
+pub record FitLeft : Type 0 where
+  pub number : ℕ
+  pub values : List Float
+  pub effects : List Float
+  pub rss : Float
+  pub converged : ℕ
+  pub rounds : ℕ
+  pub trials : ℕ
+
+-- a refusal has no rss and no counts, and keeps what stood there before
+abbrev pub fittedOr : Option Fitted → ℕ → List Float → List Float → Float → ℕ → ℕ → ℕ → FitLeft
+fittedOr none n values effects rss converged rounds trials =
+    record { number = n; values = values; effects = effects; rss = rss; converged = converged; rounds = rounds; trials = trials }
+fittedOr (some f) n values effects rss converged rounds trials =
+    record { number = n; values = values; effects = effects; rss = f .rss; converged = flagOf (f .converged); rounds = f .rounds; trials = f .trials }
+
+unfoldable pub fitLeft : Told → Float → ℕ → ℕ → ℕ → FitLeft
+fitLeft t rss converged rounds trials = fittedOr (t .fitted) (t .number) (t .values) (t .effects) rss converged rounds trials

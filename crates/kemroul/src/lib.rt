@@ -1,5 +1,6 @@
 // The C boundary, include/kemroul.h: each function calls the operation and hands its answer on.
 use curves::Answer;
+use fit::Answer as Fit;
 use self_start::Answer as Started;
 ghost use mathlib.Core.Path.{_≡_};
 ghost use mathlib.Core.List.{[], _∷_};
@@ -7,7 +8,9 @@ ghost use Rattle.curves.specs.Curve.{curveOf};
 ghost use Rattle.quadrature.specs.Orders.{orderOrZero};
 ghost use Rattle.self_start.specs.Start.{faultOf, writtenOf};
 ghost use lib.ListN.{length};
-ghost use Rattle.kemroul.specs.Boundary.{handed};
+ghost use Rattle.fit.specs.Answer.{callOf};
+ghost use Rattle.problem.specs.Problem.{problemOf};
+ghost use Rattle.kemroul.specs.Boundary.{handed, flagOf, FitLeft, fitLeft};
 ghost use Rattle.math.specs.Exp.{expOf};
 ghost use Rattle.math.specs.Ln.{lnOf};
 ghost use Rattle.math.specs.Sqrt.{sqrtOf};
@@ -80,5 +83,79 @@ pub extern "C" fn kemroul_start(code: u64, doses: &[f64], grams: &[f64], values:
     match answer {
         Started::Refused(n) => n,
         Started::Done => 0,
+    }
+}
+
+fn flag(b: bool) -> u64
+    ensures { λ r. ⌜ r ≡ flagOf b ⌝ }
+{
+    if b { 1 } else { 0 }
+}
+
+#[no_mangle]
+pub extern "C" fn kemroul_fit(
+    code: u64,
+    doses: &[f64],
+    grams: &[f64],
+    group: &[usize],
+    groups: usize,
+    effects: &[usize],
+    starts: &[f64],
+    lower: &[f64],
+    upper: &[f64],
+    group_lower: &[f64],
+    group_upper: &[f64],
+    theta: &[f64],
+    max_rounds: u64,
+    values: &mut [f64],
+    effects_out: &mut [f64],
+    rss: &mut f64,
+    converged: &mut u64,
+    rounds: &mut u64,
+    trials: &mut u64,
+) -> u64
+    ensures { λ r. ⌜
+        fitLeft
+        (callOf
+        (problemOf code (now (doses .entry)) (now (grams .entry)) (now (group .entry)) groups (now (effects .entry))
+        (now (starts .entry)) (now (lower .entry)) (now (upper .entry)) (now («group_lower» .entry)) (now («group_upper» .entry)) (now (theta .entry)))
+        «max_rounds» (now (values .entry)) (now («effects_out» .entry)))
+        (now (rss .entry)) (now (converged .entry)) (now (rounds .entry)) (now (trials .entry))
+        ≡ record {
+          number = r;
+          values = now (values .exit);
+          effects = now («effects_out» .exit);
+          rss = now (rss .exit);
+          converged = now (converged .exit);
+          rounds = now (rounds .exit);
+          trials = now (trials .exit);
+        } ⌝ }
+{
+    let answer = fit::fit(
+        code,
+        doses,
+        grams,
+        group,
+        groups,
+        effects,
+        starts,
+        lower,
+        upper,
+        group_lower,
+        group_upper,
+        theta,
+        max_rounds,
+        values,
+        effects_out,
+    );
+    match answer {
+        Fit::Refused(n) => n,
+        Fit::Done(f) => {
+            *rss = f.rss;
+            *converged = flag(f.converged);
+            *rounds = f.rounds as u64;
+            *trials = f.trials as u64;
+            0
+        }
     }
 }

@@ -1,0 +1,5 @@
+pub mod Fit
+pub mod Demand3
+pub mod Steps
+pub mod Rounds
+pub mod Answer
