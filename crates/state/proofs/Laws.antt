@@ -1,6 +1,6 @@
 -- What the proofs of this crate share: sizes, loops that agree turn by turn, and the curves kept in a list. Assumes nothing.
 use Prim.Native.Nat.{ℕ, zero, suc, _+_, _*_, _≤_, _<_}
-use mathlib.Core.Path.{_≡_, refl, sym, ap, _∙_}
+use mathlib.Core.Path.{_≡_, refl, ap, _∙_}
 use mathlib.Core.List.{List}
 use native.Mathlib.Omega.{arith}
 use native.Mathlib.Nat.{mul-le-mul-right}
@@ -13,7 +13,7 @@ use Rattle.math.specs.Parts.{group-fits}
 use Rattle.curves.specs.declared.Mean.{Mean}
 use Rattle.block_solve.specs.Normal.{emptyOf}
 use Rattle.state.specs.declared.State.{State}
-use Rattle.state.specs.Penalized.{meanAt, meanIn, storedMean, Means}
+use Rattle.state.specs.Penalized.{meanIn, storedMean, Means}
 use Rattle.state.specs.Normal.{readingOf, readingAt, readingIn, readingsOf, readingsIn}
 
 -- ---- sizes

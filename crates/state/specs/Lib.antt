@@ -5,3 +5,4 @@ pub mod Penalized
 pub mod Normal
 pub mod Trial
 pub mod Sized
+pub mod Rows

@@ -6,7 +6,7 @@ use curves::Mean;
 use curves::mean_fn::n_params;
 ghost use mathlib.Core.Path.{_≡_};
 ghost use mathlib.Core.Bool.{cond};
-ghost use Prim.Native.Nat.{_≤_, _<_, _+_, _*_};
+ghost use Prim.Native.Nat.{_≤_, _<_, _*_};
 ghost use lib.Ieee.{eq, nan};
 ghost use lib.ListN.{length, getD};
 ghost use Rattle.math.specs.Basic.{zero};
