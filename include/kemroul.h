@@ -30,9 +30,15 @@ uint64_t kemroul_gh_order(uint64_t asked);
 
 /* The functions below return 0, or the number of the first fault that a call has:
  *   1  the curve's code is not 1 to 4
- *   2  lists of readings that are unequal or too long (512)
- *   6  a wrong number of curve values
+ *   2  no readings (where a fit needs them), over 512, or lists of readings that are unequal
+ *   3  no groups or over 32
+ *   4  a group number not below the group count
+ *   5  effects not one or two, an index not below p, or two equal
+ *   6  a wrong number of curve values, starts, bounds, group bounds (p each) or thetas (1, or 3 for two effects)
+ *   7  a reading, start or theta that is not finite; a NaN bound, a lower bound of +infinity, an upper of -infinity
+ *   8  a lower bound above its upper, group bounds included
  *   9  a list for results of the wrong length
+ *  10  over 1,000 rounds
  * On a refusal nothing behind any pointer changes.
  *
  * Curves, by code, with the number p of values and their names:
@@ -49,6 +55,25 @@ uint64_t kemroul_curve(uint64_t code, const double *values, size_t n_values, dou
  * Refuses 1, then 2, then 9. */
 uint64_t kemroul_start(uint64_t code, const double *doses, size_t n_doses, const double *grams, size_t n_grams,
                        double *values, size_t n_values);
+
+/* The fit of curve `code` at one theta: readings (dose, grams, group number from 0), the group count, the
+ * indices of the one or two curve values that have an effect in each group, starting values, bounds and
+ * group bounds by position (infinities where there are none), and theta, the effects' covariance factor in
+ * absolute units. At most max_rounds rounds begin (0 to 1,000; with 0 the adjusted, projected start returns).
+ * Writes the p curve values, and group after group the effects (group_count times n_effects places), and
+ * *rss, *converged (0 or 1), *rounds (begun) and *trials (made). Proved for every fit that is not refused:
+ * the penalised sum of the start and of each accepted state falls strictly, the last of these states is the
+ * one written, every curve value of these states and of every trial is a number within its bounds, and
+ * *trials is at most 240 times *rounds. Refuses 1 to 10 in their order. */
+uint64_t kemroul_fit(uint64_t code, const double *doses, size_t n_doses, const double *grams, size_t n_grams,
+                     const uint64_t *groups, size_t n_groups, uint64_t group_count,
+                     const uint64_t *effects, size_t n_effects,
+                     const double *starts, size_t n_starts, const double *lower, size_t n_lower,
+                     const double *upper, size_t n_upper, const double *group_lower, size_t n_group_lower,
+                     const double *group_upper, size_t n_group_upper,
+                     const double *theta, size_t n_theta, uint64_t max_rounds,
+                     double *values, size_t n_values, double *effects_out, size_t n_effects_out,
+                     double *rss, uint64_t *converged, uint64_t *rounds, uint64_t *trials);
 
 #ifdef __cplusplus
 }
