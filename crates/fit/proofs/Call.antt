@@ -1,9 +1,8 @@
 -- What a call answers and leaves in its lists, refused or not. Assumes nothing.
-use mathlib.Core.Path.{_≡_, refl, sym, ap, _∙_}
-use mathlib.Core.Bool.{true, false}
+use mathlib.Core.Path.{_≡_, sym, ap, _∙_}
 use mathlib.Core.List.{List}
 use mathlib.Core.Option.{some}
-use Prim.Native.Nat.{ℕ, _+_, _*_, _≤_, _<_}
+use Prim.Native.Nat.{ℕ, _*_}
 use borrow.Author.Tests.{eq-eqb, ne-eqb}
 use lib.Dec.{eqb}
 use lib.Ieee.{Float}
@@ -13,11 +12,10 @@ use Rattle.problem.specs.Problem.{Problem, p, k}
 use Rattle.problem.specs.Faults.{refusalOf}
 use Rattle.problem.specs.Valid.{ValidFit, fit-valid}
 use Rattle.fit.specs.declared.rounds.Ended.{Ended}
-use Rattle.fit.specs.declared.Answer.{Answer}
 use Rattle.fit.specs.declared.Answer.the-variants.{Refused, Done}
 use Rattle.fit.specs.Fit as Fit
 use Rattle.fit.specs.Steps.{runOf, answered, answer-is}
-use Rattle.fit.specs.Answer.{Told, refusedWith, doneWith, told, callOf}
+use Rattle.fit.specs.Answer.{refusedWith, doneWith, told, callOf}
 
 module _ (q : Problem) (allowed : ℕ) (values effects : List Float) where
   abbrev number : ℕ

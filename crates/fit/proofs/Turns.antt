@@ -1,7 +1,7 @@
 -- What one turn of the loops of `round` and `run` does to what is left of the definition. Assumes nothing.
 use mathlib.Core.Path.{_≡_, refl, sym, ap, _∙_, subst}
 use mathlib.Core.Bool.{Bool, true, false, cond, not}
-use mathlib.Core.List.{List, [], _∷_}
+use mathlib.Core.List.{List}
 use mathlib.Core.Option.{Option, none, some}
 use Prim.Native.Nat.{ℕ, _+_, _-_, _*_, _≤_, _<_}
 use native.Mathlib.Omega.{arith}
@@ -22,7 +22,7 @@ use Rattle.fit.specs.declared.rounds.Evaluated.{Evaluated}
 use Rattle.fit.specs.declared.rounds.Outcome.{Outcome}
 use Rattle.fit.specs.declared.rounds.Ended.{Ended}
 use Rattle.fit.specs.Fit.{1e-10, Trace, lengths, attempts, rounds, direction}
-use Rattle.fit.specs.Steps.{resultOf, stopped, following, winner, runOf, rounds-go, won-near, won-on, attempts-done, attempts-none, attempts-near, attempts-try, lengths-done, lengths-win, lengths-lose}
+use Rattle.fit.specs.Steps.{resultOf, stopped, following, winner, runOf, rounds-go, won-near, won-on, attempts-try, lengths-done, lengths-win, lengths-lose}
 use Rattle.fit.specs.Rounds.{evaluatedFrom, evaluatedOf, evaluated-state, evaluated-rss, evaluated-sum, lostWith, endedWith, Round, RoundAnswer}
 
 pub never : {X : Type 0} (b : Bool) → b ≡ false → b ≡ true → X

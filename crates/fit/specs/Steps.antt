@@ -1,10 +1,10 @@
 -- The fit's loops, a step at a time, for the loops of the code to go by: what a run ends in, from the state s with the rounds r begun and the trials t made so far.
 -- An invariant of the code: `resultOf s r t (rounds q (n - r) s lambda)` is what the whole run ends in, and so with `attempts` and `lengths`. Assumes nothing.
-use mathlib.Core.Path.{_≡_, refl, sym, ap, _∙_}
+use mathlib.Core.Path.{_≡_, refl, _∙_}
 use mathlib.Core.Bool.{Bool, true, false, cond}
-use mathlib.Core.List.{List, [], _∷_}
+use mathlib.Core.List.{List}
 use mathlib.Core.Option.{Option, none, some}
-use Prim.Native.Nat.{ℕ, zero, suc, _+_, _-_, _*_, _≤_, _<_}
+use Prim.Native.Nat.{ℕ, suc, _+_, _-_, _*_, _≤_, _<_}
 use native.Mathlib.Omega.{arith}
 use lib.Ieee.{Float, lt}
 use lib.ListN.{length, take}

@@ -66,8 +66,13 @@ pub fn fit(
     values: &mut [f64],
     effects_out: &mut [f64],
 ) -> Answer
-    ensures { λ r. ⌜ told r (now (values .exit)) (now («effects_out» .exit))
-        ≡ callOf (problemOf code (now (doses .entry)) (now (grams .entry)) (now (group .entry)) groups (now (effects .entry)) (now (starts .entry)) (now (lower .entry)) (now (upper .entry)) (now («group_lower» .entry)) (now («group_upper» .entry)) (now (theta .entry))) «max_rounds» (now (values .entry)) (now («effects_out» .entry)) ⌝ }
+    ensures { λ r.
+        ⌜ told r (now (values .exit)) (now («effects_out» .exit))
+        ≡ callOf
+        (problemOf code (now (doses .entry)) (now (grams .entry)) (now (group .entry)) groups (now (effects .entry))
+        (now (starts .entry)) (now (lower .entry)) (now (upper .entry))
+        (now («group_lower» .entry)) (now («group_upper» .entry)) (now (theta .entry)))
+        «max_rounds» (now (values .entry)) (now («effects_out» .entry)) ⌝ }
 {
     let fault = fit_fault(
         code,

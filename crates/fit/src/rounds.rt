@@ -50,7 +50,7 @@ pub struct Ended {
     pub trials: usize,
 }
 
-// The penalised sum of a state, with its curves in means.
+// The rss and the penalised sum of a state; its curves are left in means.
 fn evaluate_state(
     code: u64,
     effects: &[usize],
@@ -64,7 +64,9 @@ fn evaluate_state(
 ) -> Evaluated
     requires { ⌜ Effects (now effects)
         × (Readings (now doses) (now grams) (now group) × ((groups ≤ 32) × (length (now means) ≡ 2560))) ⌝ }
-    ensures { λ r. ⌜ (r ≡ evaluatedFrom code (now (effects .entry)) groups (now (doses .entry)) (now (grams .entry)) (now (group .entry)) (now (theta .entry)) s)
+    ensures { λ r.
+        ⌜ (r ≡ evaluatedFrom code (now (effects .entry)) groups (now (doses .entry)) (now (grams .entry)) (now (group .entry))
+        (now (theta .entry)) s)
         × Means code (now (effects .entry)) (now (doses .entry)) (now (group .entry)) s (now (means .exit)) ⌝ }
 {
     let rss = evaluate(code, s, effects, doses, grams, group, means);
@@ -95,8 +97,11 @@ fn trial(
     means: &mut [f64],
 ) -> Evaluated
     requires { ⌜ Sizes code (now effects) groups (now doses) (now grams) (now group) (now d) (now means) ⌝ }
-    ensures { λ r. ⌜ (r ≡ evaluatedFrom code (now (effects .entry)) groups (now (doses .entry)) (now (grams .entry)) (now (group .entry)) (now (theta .entry))
-        (triedFrom code (now (effects .entry)) groups (now (lower .entry)) (now (upper .entry)) (now («group_lower» .entry)) (now («group_upper» .entry)) s (now (d .entry)) alpha))
+    ensures { λ r.
+        ⌜ (r ≡ evaluatedFrom code (now (effects .entry)) groups (now (doses .entry)) (now (grams .entry)) (now (group .entry))
+        (now (theta .entry))
+        (triedFrom code (now (effects .entry)) groups (now (lower .entry)) (now (upper .entry))
+        (now («group_lower» .entry)) (now («group_upper» .entry)) s (now (d .entry)) alpha))
         × Means code (now (effects .entry)) (now (doses .entry)) (now (group .entry)) (r .state) (now (means .exit)) ⌝ }
 {
     let z = try_step(
@@ -148,7 +153,10 @@ fn round(
     means: &mut [f64],
 ) -> Outcome
     requires { ⌜ Sizes code (now effects) groups (now doses) (now grams) (now group) (now d) (now means) ⌝ }
-    ensures { λ r. ⌜ RoundAnswer code (now (effects .entry)) groups (now (doses .entry)) (now (grams .entry)) (now (group .entry)) (now (lower .entry)) (now (upper .entry)) (now («group_lower» .entry)) (now («group_upper» .entry)) (now (theta .entry)) x n first (now (means .exit)) r ⌝ }
+    ensures { λ r.
+        ⌜ RoundAnswer code (now (effects .entry)) groups (now (doses .entry)) (now (grams .entry)) (now (group .entry))
+        (now (lower .entry)) (now (upper .entry)) (now («group_lower» .entry)) (now («group_upper» .entry)) (now (theta .entry))
+        x n first (now (means .exit)) r ⌝ }
 {
     let p = n_params(code);
     let k = effects.len();
@@ -209,6 +217,7 @@ fn round(
     lost(x, lambda, false, trials)
 }
 
+// The rss that is answered was worked out with the state.
 fn end_with(x: Evaluated, converged: bool, rounds: usize, trials: usize) -> Ended
     ensures { λ r. ⌜ r ≡ endedWith x converged rounds trials ⌝ }
 {
@@ -241,8 +250,14 @@ fn run(
     d: &mut [f64],
     means: &mut [f64],
 ) -> Ended
-    requires { ⌜ Sizes code (now effects) groups (now doses) (now grams) (now group) (now d) (now means) × (allowed ≤ 1000) ⌝ }
-    ensures { λ r. ⌜ r ≡ runOf (problemOf code (now (doses .entry)) (now (grams .entry)) (now (group .entry)) groups (now (effects .entry)) (now (starts .entry)) (now (lower .entry)) (now (upper .entry)) (now («group_lower» .entry)) (now («group_upper» .entry)) (now (theta .entry))) allowed ⌝ }
+    requires { ⌜ Sizes code (now effects) groups (now doses) (now grams) (now group) (now d) (now means)
+        × (allowed ≤ 1000) ⌝ }
+    ensures { λ r.
+        ⌜ r ≡ runOf
+        (problemOf code (now (doses .entry)) (now (grams .entry)) (now (group .entry)) groups (now (effects .entry))
+        (now (starts .entry)) (now (lower .entry)) (now (upper .entry))
+        (now («group_lower» .entry)) (now («group_upper» .entry)) (now (theta .entry)))
+        allowed ⌝ }
 {
     let k = effects.len();
     let inverse = sigma_inv_from_theta(k, theta);
@@ -309,17 +324,17 @@ fn run(
     end_with(x, false, rounds, trials)
 }
 
-// Sizes for a direction: four curve values and two effects of 32 groups.
+// Room for a direction: four curve values and two effects of 32 groups.
 fn room_for_direction() -> [f64; 68] {
     [0.0; 68]
 }
 
-// Sizes for the curves of 512 readings, five numbers each.
+// Room for the curves of 512 readings, five numbers each.
 fn room_for_curves() -> [f64; 2560] {
     [0.0; 2560]
 }
 
-// The fit of a problem without fault.
+// The fit of a problem without fault; what holds for all of it is made ready once.
 pub fn inner_gauss_newton(
     code: u64,
     effects: &[usize],
@@ -337,7 +352,12 @@ pub fn inner_gauss_newton(
 ) -> Ended
     requires { ⌜ Effects (now effects)
         × (Readings (now doses) (now grams) (now group) × ((groups ≤ 32) × (allowed ≤ 1000))) ⌝ }
-    ensures { λ r. ⌜ r ≡ runOf (problemOf code (now (doses .entry)) (now (grams .entry)) (now (group .entry)) groups (now (effects .entry)) (now (starts .entry)) (now (lower .entry)) (now (upper .entry)) (now («group_lower» .entry)) (now («group_upper» .entry)) (now (theta .entry))) allowed ⌝ }
+    ensures { λ r.
+        ⌜ r ≡ runOf
+        (problemOf code (now (doses .entry)) (now (grams .entry)) (now (group .entry)) groups (now (effects .entry))
+        (now (starts .entry)) (now (lower .entry)) (now (upper .entry))
+        (now («group_lower» .entry)) (now («group_upper» .entry)) (now (theta .entry)))
+        allowed ⌝ }
 {
     let mut d = room_for_direction();
     let mut means = room_for_curves();

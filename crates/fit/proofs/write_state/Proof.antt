@@ -1,3 +1,4 @@
+-- The lists that are written are no longer than the state's. Assumes nothing.
 use mathlib.Core.Path.{_≡_}
 use native.Mathlib.Omega.{arith}
 use lib.ListN.{length}

@@ -1,3 +1,4 @@
+-- The sum is the rss plus the penalties. Assumes nothing.
 use mathlib.Core.Path.{_≡_}
 use lib.Ieee.{Float}
 use Rattle.math.specs.Basic.{add}

@@ -2,14 +2,12 @@
 use mathlib.Core.Path.{_≡_, refl, sym, ap, _∙_}
 use mathlib.Core.Bool.{true, false}
 use mathlib.Core.Logic.{⊎-elim}
-use Prim.Native.Nat.{ℕ, _-_, _+_, _*_, _≤_, _<_}
+use Prim.Native.Nat.{ℕ, _-_, _+_}
 use native.Mathlib.Omega.{arith}
 use borrow.Author.Needs.{needs}
-use borrow.Author.Tests.{not-true, not-false}
 use lib.Ieee.{Float, lt}
 use lib.ListN.{length}
 use Rattle.fit.specs.declared.rounds.Outcome.{Outcome}
-use Rattle.state.specs.Trial.{raised, lowered}
 use Rattle.fit.specs.Fit.{1e-10}
 use Rattle.fit.specs.Steps.{attempts-done, attempts-none, attempts-near}
 use Rattle.fit.specs.Rounds.{lostWith}

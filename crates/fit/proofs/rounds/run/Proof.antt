@@ -1,13 +1,12 @@
 -- The rounds go on as the definition does, each from the last winner with its sums and curves. Assumes nothing.
-use mathlib.Core.Path.{_≡_, refl, sym, ap, _∙_}
-use mathlib.Core.Bool.{true, false}
+use mathlib.Core.Path.{refl, sym, ap, _∙_}
+use mathlib.Core.Bool.{false}
 use mathlib.Core.List.{List}
-use Prim.Native.Nat.{ℕ, _-_, _+_, _*_, _≤_, _<_}
+use Prim.Native.Nat.{_-_}
 use native.Mathlib.Omega.{arith}
 use borrow.Author.Needs.{needs}
 use borrow.Author.Tests.{not-true, not-false}
-use lib.Ieee.{Float, lt}
-use lib.ListN.{length}
+use lib.Ieee.{Float}
 use Rattle.state.specs.Normal.{blocksOf}
 use Rattle.fit.specs.Steps.{rounds-done}
 use Rattle.fit.proofs.Turns.{given, Rounds, from-self, state-of, run-begins, ends-as, round-lost, round-near, round-on}

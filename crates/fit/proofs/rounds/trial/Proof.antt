@@ -1,3 +1,4 @@
+-- The state tried, and then its sums. Assumes nothing.
 use Rattle.fit.proofs.Turns.{state-of}
 use borrow.Author.Needs.{needs}
 use Rattle.fit.proofs.rounds.trial.Statement.{statement}
