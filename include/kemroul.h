@@ -75,6 +75,21 @@ uint64_t kemroul_fit(uint64_t code, const double *doses, size_t n_doses, const d
                      double *values, size_t n_values, double *effects_out, size_t n_effects_out,
                      double *rss, uint64_t *converged, uint64_t *rounds, uint64_t *trials);
 
+/* The criterion at one theta (the profiled deviance): fits as kemroul_fit does and writes the same two
+ * lists, then answers *criterion and *sigma2, by maximum likelihood or, where reml is not 0, by REML, with the
+ * correction of adaptive Gauss-Hermite quadrature for n_agq points where a rule applies (any number is
+ * taken: 0 and 1 mean none). *criterion may be infinite or NaN, *sigma2 is at least 1e-12. Read
+ * docs/DIFFERENCES.md before relying on quadrature. Refuses as kemroul_fit does. */
+uint64_t kemroul_criterion(uint64_t code, const double *doses, size_t n_doses, const double *grams, size_t n_grams,
+                     const uint64_t *groups, size_t n_groups, uint64_t group_count,
+                     const uint64_t *effects, size_t n_effects,
+                     const double *starts, size_t n_starts, const double *lower, size_t n_lower,
+                     const double *upper, size_t n_upper, const double *group_lower, size_t n_group_lower,
+                     const double *group_upper, size_t n_group_upper,
+                     const double *theta, size_t n_theta, uint64_t max_rounds, uint64_t reml, uint64_t n_agq,
+                     double *values, size_t n_values, double *effects_out, size_t n_effects_out,
+                     double *criterion, double *sigma2);
+
 #ifdef __cplusplus
 }
 #endif

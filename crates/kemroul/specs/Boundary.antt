@@ -6,6 +6,8 @@ use mathlib.Core.Option.{Option, none, some}
 use lib.Ieee.{Float}
 use Rattle.fit.specs.declared.Fitted.{Fitted}
 use Rattle.fit.specs.Answer.{Told}
+use Rattle.criterion.specs.declared.profile.Profile.{Profile}
+use Rattle.criterion.specs.Answer as Criterion
 
 -- the floats of an answer, or those that stood there before, where the answer is a refusal, which has none
 abbrev pub orKept : List Float → List Float → List Float
@@ -39,3 +41,18 @@ fittedOr (some f) n values effects rss converged rounds trials =
 
 unfoldable pub fitLeft : Told → Float → ℕ → ℕ → ℕ → FitLeft
 fitLeft t rss converged rounds trials = fittedOr (t .fitted) (t .number) (t .values) (t .effects) rss converged rounds trials
+
+-- what a criterion leaves: the number, the two lists, and the criterion and sigma2 behind the pointers
+pub record CriterionLeft : Type 0 where
+  pub number : ℕ
+  pub values : List Float
+  pub effects : List Float
+  pub criterion : Float
+  pub sigma2 : Float
+
+abbrev pub profileOr : Option Profile → ℕ → List Float → List Float → Float → Float → CriterionLeft
+profileOr none n values effects criterion sigma2 = record { number = n; values = values; effects = effects; criterion = criterion; sigma2 = sigma2 }
+profileOr (some p) n values effects criterion sigma2 = record { number = n; values = values; effects = effects; criterion = p .criterion; sigma2 = p .sigma2 }
+
+unfoldable pub criterionLeft : Criterion.Told → Float → Float → CriterionLeft
+criterionLeft t criterion sigma2 = profileOr (t .profile) (t .number) (t .values) (t .effects) criterion sigma2

@@ -1,4 +1,5 @@
 // The C boundary, include/kemroul.h: each function calls the operation and hands its answer on.
+use criterion::Answer as Profiled;
 use curves::Answer;
 use fit::Answer as Fit;
 use self_start::Answer as Started;
@@ -8,9 +9,12 @@ ghost use Rattle.curves.specs.Curve.{curveOf};
 ghost use Rattle.quadrature.specs.Orders.{orderOrZero};
 ghost use Rattle.self_start.specs.Start.{faultOf, writtenOf};
 ghost use lib.ListN.{length};
+ghost use Rattle.criterion.specs.Answer as Criterion;
 ghost use Rattle.fit.specs.Answer.{callOf};
+ghost use lib.Dec.{eqb};
+ghost use mathlib.Core.Bool.{not};
 ghost use Rattle.problem.specs.Problem.{problemOf};
-ghost use Rattle.kemroul.specs.Boundary.{handed, flagOf, FitLeft, fitLeft};
+ghost use Rattle.kemroul.specs.Boundary.{handed, flagOf, FitLeft, fitLeft, CriterionLeft, criterionLeft};
 ghost use Rattle.math.specs.Exp.{expOf};
 ghost use Rattle.math.specs.Ln.{lnOf};
 ghost use Rattle.math.specs.Sqrt.{sqrtOf};
@@ -155,6 +159,73 @@ pub extern "C" fn kemroul_fit(
             *converged = flag(f.converged);
             *rounds = f.rounds as u64;
             *trials = f.trials as u64;
+            0
+        }
+    }
+}
+
+// Any value of reml but 0 counts as 1.
+#[no_mangle]
+pub extern "C" fn kemroul_criterion(
+    code: u64,
+    doses: &[f64],
+    grams: &[f64],
+    group: &[usize],
+    groups: usize,
+    effects: &[usize],
+    starts: &[f64],
+    lower: &[f64],
+    upper: &[f64],
+    group_lower: &[f64],
+    group_upper: &[f64],
+    theta: &[f64],
+    max_rounds: u64,
+    reml: u64,
+    n_agq: u64,
+    values: &mut [f64],
+    effects_out: &mut [f64],
+    criterion: &mut f64,
+    sigma2: &mut f64,
+) -> u64
+    ensures { λ r. ⌜
+        criterionLeft
+        (Criterion.callOf
+        (problemOf code (now (doses .entry)) (now (grams .entry)) (now (group .entry)) groups (now (effects .entry))
+        (now (starts .entry)) (now (lower .entry)) (now (upper .entry)) (now («group_lower» .entry)) (now («group_upper» .entry)) (now (theta .entry)))
+        «max_rounds» (not (eqb reml 0)) «n_agq» (now (values .entry)) (now («effects_out» .entry)))
+        (now (criterion .entry)) (now (sigma2 .entry))
+        ≡ record {
+          number = r;
+          values = now (values .exit);
+          effects = now («effects_out» .exit);
+          criterion = now (criterion .exit);
+          sigma2 = now (sigma2 .exit);
+        } ⌝ }
+{
+    let answer = criterion::criterion(
+        code,
+        doses,
+        grams,
+        group,
+        groups,
+        effects,
+        starts,
+        lower,
+        upper,
+        group_lower,
+        group_upper,
+        theta,
+        max_rounds,
+        reml != 0,
+        n_agq,
+        values,
+        effects_out,
+    );
+    match answer {
+        Profiled::Refused(n) => n,
+        Profiled::Done(p) => {
+            *criterion = p.criterion;
+            *sigma2 = p.sigma2;
             0
         }
     }

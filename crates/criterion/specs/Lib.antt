@@ -1,0 +1,5 @@
+pub mod Groups
+pub mod LogDet
+pub mod Agq
+pub mod Profile
+pub mod Answer
