@@ -15,7 +15,7 @@ use Rattle.math.specs.Basic.{add, mul, two}
 use Rattle.math.specs.Loops.{iter, until-stop, until-go, until-done}
 use Rattle.math.specs.Parts.{group-fits}
 use Rattle.quadrature.specs.declared.orders.Order.the-variants.{Points}
-use Rattle.quadrature.specs.Orders.{orderOf, productOf}
+use Rattle.quadrature.specs.Orders.{productOf}
 use Rattle.quadrature.proofs.OrderLaws.{order-range, product-is-order}
 use Rattle.re_cov.specs.ReCov.{logDetOf}
 use Rattle.linalg.specs.declared.pair.Matrix.the-variants as Matrices

@@ -1,11 +1,12 @@
--- The quadrature that the criterion adds (`agq_correction` for one effect, `agq_correction_product` for two). Definitions only.
-use Prim.Native.Nat.{ℕ, _*_, _/_, _%_}
+-- The quadrature that the criterion adds (`agq_correction` for one effect, `agq_correction_product` for two).
+use Prim.Native.Nat.{ℕ, _*_, _/_, _%_, _^_}
+use mathlib.Core.Path.{_≡_, refl}
 use mathlib.Core.Bool.{Bool, true, false, not, _||_, cond}
 use mathlib.Core.List.{List, [], _∷_, _++_}
 use lib.Dec.{eqb}
-use lib.Ieee.{Float, nan, le}
+use lib.Ieee.{Float, nan, binary64, le, neg, round, ofBits}
 use lib.ListN.{getD, length}
-use Rattle.math.specs.Basic.{add, sub, mul, div, bits, zero, half, one, isFinite}
+use Rattle.math.specs.Basic.{add, sub, mul, div, bits, zero, half, one, two, isFinite}
 use Rattle.math.specs.Ln.{lnOf}
 use Rattle.math.specs.Sqrt.{sqrtOf}
 use Rattle.math.specs.Loops.{iter, until}
@@ -25,7 +26,7 @@ use Rattle.criterion.specs.declared.agq.Correction.{Correction}
 use Rattle.criterion.specs.declared.agq.Correction.the-variants.{Added, None}
 use Rattle.criterion.specs.Groups.{ownOf, gradientsAt, groupSquares}
 
--- 2^-52, -1/2 and -2
+-- EPSILON, 2^-52; -1/2 and -2
 abbrev pub epsilon : Float
 epsilon = bits 0x3cb0_0000_0000_0000
 
@@ -34,6 +35,10 @@ minusHalf = bits 0xbfe0_0000_0000_0000
 
 abbrev pub minusTwo : Float
 minusTwo = bits 0xc000_0000_0000_0000
+
+pub constants : epsilon ∷ minusHalf ∷ minusTwo ∷ [] ≡ round binary64 false 1 (2 ^ 52) ∷ neg half ∷ neg two ∷ []
+unfolding ofBits round neg
+constants = refl
 
 -- ---- a group's curvature
 

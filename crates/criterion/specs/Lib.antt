@@ -3,3 +3,4 @@ pub mod LogDet
 pub mod Agq
 pub mod Profile
 pub mod Answer
+pub mod Rows

@@ -1,4 +1,5 @@
--- The log-determinant of the random effects (`random_effect_logdet`). Definitions only.
+-- The log-determinant of the random effects (`random_effect_logdet`). The Rust fills the blocks of all groups in one walk over the readings; a reading changes the block of its own
+-- group alone, so a group's block is the one of its own readings, in their order. For one effect the entries past the first are not read. Definitions only.
 use Prim.Native.Nat.{ℕ, _*_}
 use mathlib.Core.Bool.{Bool, true, false, cond}
 use mathlib.Core.List.{List}

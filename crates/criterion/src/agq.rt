@@ -16,11 +16,11 @@ use re_cov::sigma_inv_from_theta;
 ghost use mathlib.Core.Path.{_≡_};
 ghost use Prim.Native.Nat.{_≤_, _+_};
 ghost use lib.ListN.{length, take};
-ghost use Rattle.re_cov.specs.ReCov.{dotOf, penaltyOf};
+ghost use Rattle.re_cov.specs.ReCov.{dotOf};
 ghost use Rattle.state.specs.Sized.{Effects};
 ghost use Rattle.criterion.specs.Groups.{Lists};
 ghost use Rattle.criterion.specs.Agq.{addQuotients, curvatureOf, scalingOf, nodesOf, nodeOf, movedOf};
-ghost use Rattle.criterion.specs.Agq.{termOf, termFor, termsOf, addGroup, groupAt, groupsOf, agqOf};
+ghost use Rattle.criterion.specs.Agq.{termOf, termsOf, addGroup, groupAt, groupsOf, agqOf};
 
 // A node in one or two dimensions and the logarithm of its weight.
 pub struct Node {

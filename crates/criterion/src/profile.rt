@@ -11,7 +11,7 @@ ghost use Prim.Native.Nat.{_≤_, _*_};
 ghost use lib.ListN.{length};
 ghost use Rattle.state.specs.Penalized.{penaltySum};
 ghost use Rattle.criterion.specs.Groups.{Lists};
-ghost use Rattle.criterion.specs.Profile.{isScalar, dfOf, sigma2Of, scalarOf, remlOf, mlOf, laplaceOf, corrected, detOf, profileFrom};
+ghost use Rattle.criterion.specs.Profile.{isScalar, dfOf, sigma2Of, scalarOf, remlOf, laplaceOf, corrected, detOf, profileFrom};
 
 pub struct Profile {
     pub criterion: f64,

@@ -1,7 +1,4 @@
 -- Where the fit is refused, so is the criterion; else what the fit wrote is what the definition starts from. Assumes nothing.
-use mathlib.Core.Path.{_∙_, ap}
-use Rattle.criterion.specs.declared.Answer.the-variants.{Done}
-use Rattle.criterion.specs.Answer.{told}
 use Rattle.criterion.proofs.Call.{refused-as, done-as, profile-as, sized}
 use borrow.Author.Needs.{needs}
 use Rattle.criterion.proofs.criterion.Statement.{statement}

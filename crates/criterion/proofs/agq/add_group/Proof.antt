@@ -1,11 +1,9 @@
-use mathlib.Core.Path.{_≡_, refl, sym, ap, _∙_}
-use Prim.Native.Nat.{ℕ, _+_, _-_, _*_, _≤_, _<_}
+use mathlib.Core.Path.{_≡_, sym, ap, _∙_}
 use borrow.Author.Tests.{eq-eqb, ne-eqb}
-use lib.ListN.{length, take, getD, set, length-set}
+use lib.ListN.{length}
 use lib.Seq.{length-take-le}
 use Rattle.math.specs.Loops.{pick-true, pick-false}
 use lib.Ieee.{neg, ofBits}
-use Rattle.math.specs.Basic.{isFinite}
 use Rattle.quadrature.specs.Sums.{logSumExp}
 use Rattle.criterion.specs.Agq.{scalingOf, addInner, addScaled, addGroup}
 use Rattle.criterion.proofs.Laws.{nodes-few}

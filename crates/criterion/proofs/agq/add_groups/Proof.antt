@@ -1,7 +1,6 @@
 -- What is left from g on, with the total so far, comes to the whole. Assumes nothing.
-use mathlib.Core.Path.{_≡_, refl, sym, ap, _∙_}
-use Prim.Native.Nat.{ℕ, _+_, _-_, _*_, _≤_, _<_}
-use lib.ListN.{length, take, getD, set, length-set}
+use mathlib.Core.Path.{_≡_, refl, sym, _∙_}
+use Prim.Native.Nat.{_-_, _≤_}
 use Rattle.math.specs.Basic.{zero}
 use Rattle.criterion.specs.Agq.{groupsFrom}
 use Rattle.criterion.proofs.Laws.{lists-at, agq-begins, agq-stop, agq-go, agq-done}

@@ -1,4 +1,4 @@
-use mathlib.Core.Path.{_≡_, refl, sym, ap, _∙_}
+use mathlib.Core.Path.{sym, ap, _∙_}
 use Rattle.criterion.specs.Agq.{byOrder, agqOf}
 use Rattle.criterion.proofs.Laws.{order-few}
 use borrow.Author.Needs.{needs}

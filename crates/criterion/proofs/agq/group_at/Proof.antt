@@ -1,8 +1,7 @@
-use mathlib.Core.Path.{_≡_, refl, sym, ap, _∙_}
-use Prim.Native.Nat.{ℕ, _+_, _-_, _*_, _≤_, _<_}
-use lib.ListN.{length, take, getD, set, length-set}
+use mathlib.Core.Path.{_≡_, sym, ap, _∙_}
+use Prim.Native.Nat.{_+_, _-_, _*_}
+use lib.ListN.{length}
 use lib.Seq.{length-take-le}
-use Rattle.criterion.specs.Groups.{ownOf}
 use Rattle.criterion.specs.Agq.{groupAt}
 use Rattle.criterion.proofs.Laws.{size-fits, own-length}
 use native.Mathlib.Omega.{arith}

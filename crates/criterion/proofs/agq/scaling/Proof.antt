@@ -1,6 +1,6 @@
-use mathlib.Core.Path.{_≡_, refl, sym, ap, _∙_}
+use mathlib.Core.Path.{sym, ap, _∙_}
 use borrow.Author.Tests.{eq-eqb, ne-eqb}
-use Rattle.math.specs.Loops.{pick-true, pick-false}
+use Rattle.math.specs.Loops.{pick-false}
 use Rattle.linalg.specs.Pair as Pair
 use Rattle.criterion.specs.Agq.{scalingOf, factorOf}
 use borrow.Author.Needs.{needs}

@@ -1,10 +1,10 @@
 -- The first t places hold the terms of the nodes before t. Assumes nothing.
-use mathlib.Core.Path.{_≡_, refl, sym, ap, _∙_}
-use Prim.Native.Nat.{ℕ, _+_, _-_, _*_, _≤_, _<_}
-use Rattle.math.specs.Loops.{iter, iter-none, iter-more, iter-all}
-use lib.ListN.{length, take, getD, set, length-set}
+use mathlib.Core.Path.{_≡_, refl, ap, _∙_}
+use Prim.Native.Nat.{_-_, _≤_, _<_}
+use Rattle.math.specs.Loops.{iter, iter-none, iter-more}
+use lib.ListN.{length, take, length-set}
 use mathlib.Core.List.{[], _∷_, _++_}
-use Rattle.criterion.specs.Agq.{moreTerms, termAt, termOf, termsOf}
+use Rattle.criterion.specs.Agq.{moreTerms, termAt, termsOf}
 use Rattle.criterion.proofs.Laws.{nodes-few, terms-more}
 use borrow.Author.Needs.{needs}
 use native.Mathlib.Omega.{arith}

@@ -1,7 +1,7 @@
-use mathlib.Core.Path.{_≡_, refl, sym, ap, _∙_}
-use Prim.Native.Nat.{ℕ, _+_, _-_, _*_, _≤_, _<_}
+use mathlib.Core.Path.{_≡_, _∙_}
+use Prim.Native.Nat.{_-_, _≤_}
 use Rattle.math.specs.Loops.{iter, iter-none, iter-more, iter-all}
-use lib.ListN.{length, take, getD, set, length-set}
+use lib.ListN.{length}
 use Rattle.criterion.specs.LogDet.{blockAt, blockOf}
 use borrow.Author.Needs.{needs}
 use native.Mathlib.Omega.{arith}

@@ -1,7 +1,6 @@
 -- What is left from g on, with the total so far, comes to the whole. Assumes nothing.
 use mathlib.Core.Path.{_≡_, refl, sym, ap, _∙_}
-use Prim.Native.Nat.{ℕ, _+_, _-_, _*_, _≤_, _<_}
-use lib.ListN.{length, take, getD, set, length-set}
+use Prim.Native.Nat.{_+_, _-_, _≤_}
 use Rattle.math.specs.Basic.{add, mul, two}
 use Rattle.criterion.specs.LogDet.{logdetFrom}
 use Rattle.criterion.proofs.Laws.{lists-at, logdet-begins, logdet-stop, logdet-go, logdet-done}

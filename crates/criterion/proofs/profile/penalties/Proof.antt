@@ -1,5 +1,5 @@
-use mathlib.Core.Path.{_≡_, refl, sym, ap, _∙_}
-use Prim.Native.Nat.{ℕ, _+_, _-_, _*_, _≤_, _<_}
+use mathlib.Core.Path.{_≡_}
+use Prim.Native.Nat.{_+_, _-_, _*_, _≤_}
 use Rattle.math.specs.Loops.{iter, iter-none, iter-more, iter-all}
 use Rattle.math.specs.Basic.{zero}
 use Rattle.math.specs.Parts.{group-fits}

@@ -1,4 +1,4 @@
-use mathlib.Core.Path.{_≡_, refl, sym, ap, _∙_}
+use mathlib.Core.Path.{sym, ap}
 use Rattle.criterion.specs.Profile.{corrected}
 use borrow.Author.Needs.{needs}
 use Rattle.criterion.proofs.profile.with_correction.Statement.{statement}
