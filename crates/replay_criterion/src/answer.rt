@@ -1,0 +1,91 @@
+// An answer as it stands in a line, and the same of a call.
+use cases::cursor::Cursor;
+use cases::cursor::float;
+use cases::cursor::named;
+use cases::cursor::whole;
+use cases::lists::floats;
+use cases::same::same_float;
+use cases::same::same_floats;
+use criterion::Answer;
+
+// What every float that is lent holds before a call, and keeps where the call refuses.
+pub fn kept() -> f64 {
+    math::words::of_bits(0x4010_dead_0000_beef)
+}
+
+// The returned number, 0 or the refusal, and what stands in the single outputs after the call.
+pub struct Told {
+    pub number: u64,
+    pub criterion: f64,
+    pub sigma2: f64,
+}
+
+// A line's answer, the lengths of its lists, and the place after it.
+pub struct Stored {
+    pub told: Told,
+    pub values: [f64; 8],
+    pub n_values: usize,
+    pub effects: [f64; 80],
+    pub n_effects: usize,
+    pub next: Cursor,
+}
+
+// The single outputs of a refused call keep what they held.
+pub fn told_of(answer: Answer) -> Told {
+    match answer {
+        Answer::Refused(n) => Told {
+            number: n,
+            criterion: kept(),
+            sigma2: kept(),
+        },
+        Answer::Done(p) => Told {
+            number: 0,
+            criterion: p.criterion,
+            sigma2: p.sigma2,
+        },
+    }
+}
+
+// Places of a list that the line does not fill hold what a lent list holds.
+pub fn stored_at(line: &[u8], c: Cursor) -> Stored {
+    let mut values = [kept(); 8];
+    let mut effects = [kept(); 80];
+    let number = whole(line, named(line, c, b"="));
+    let v = floats(line, number.next, &mut values);
+    let e = floats(line, v.next, &mut effects);
+    let criterion = float(line, e.next);
+    let sigma2 = float(line, criterion.next);
+    let next = sigma2.next;
+    Stored {
+        told: Told {
+            number: number.value,
+            criterion: criterion.value,
+            sigma2: sigma2.value,
+        },
+        values,
+        n_values: v.len,
+        effects,
+        n_effects: e.len,
+        next,
+    }
+}
+
+fn same_told(a: Told, b: Told) -> bool {
+    a.number == b.number && same_float(a.criterion, b.criterion) && same_float(a.sigma2, b.sigma2)
+}
+
+// Whether the stored list begins with these values.
+fn begins_with(stored: &[f64], values: &[f64]) -> bool {
+    let n = values.len();
+    if n > stored.len() {
+        return false;
+    }
+    same_floats(values, &stored[0..n])
+}
+
+// Whether a call's answer and both lists after it are the stored ones, given that the lengths are.
+pub fn same_answer(told: Told, values: &[f64], effects: &[f64], s: Stored) -> bool {
+    let v = s.values;
+    let e = s.effects;
+    same_told(told, s.told) && begins_with(&v, values) && begins_with(&e, effects)
+}
