@@ -13,7 +13,7 @@
 # The folder that holds the published Rust, as src/nlmm/fit.rs and so on.
 SOURCE ?= ../shared/docs/src
 # The operations that the archive has. Adding one is adding its word: exp ln sqrt gh_order curve start fit criterion search.
-OPS ?= exp ln sqrt gh_order curve start fit criterion
+OPS ?= exp ln sqrt gh_order curve start fit criterion search
 SEED ?= 20261115
 # The cases of exp, ln, sqrt and curve each; the dearer operations get a share (oracle/gen/src/main.rs).
 LINES ?= 400000

@@ -38,7 +38,7 @@ uint64_t kemroul_gh_order(uint64_t asked);
  *   7  a reading, start or theta that is not finite; a NaN bound, a lower bound of +infinity, an upper of -infinity
  *   8  a lower bound above its upper, group bounds included
  *   9  a list for results of the wrong length
- *  10  over 1,000 rounds
+ *  10  over 1,000 rounds; for a search also two effects, or over 1,000 narrowings
  * On a refusal nothing behind any pointer changes.
  *
  * Curves, by code, with the number p of values and their names:
@@ -89,6 +89,20 @@ uint64_t kemroul_criterion(uint64_t code, const double *doses, size_t n_doses, c
                      const double *theta, size_t n_theta, uint64_t max_rounds, uint64_t reml, uint64_t n_agq,
                      double *values, size_t n_values, double *effects_out, size_t n_effects_out,
                      double *criterion, double *sigma2);
+
+/* The search over theta from 0.2 to 20, by golden section over kemroul_criterion's criterion, for one effect:
+ * *theta, the criterion there, the narrowings made, whether it converged (0 or 1: narrow enough, and a finite
+ * criterion) and the number of fits. Proved, whatever the criterion answers, NaN included: exactly the smaller
+ * of 26 and max_narrowings narrowings, so at most 30, and *fits is *narrowings plus 3. Writes no list.
+ * Refuses as kemroul_fit does without 9 and without theta in 6 and 7; then 10 as above. */
+uint64_t kemroul_search(uint64_t code, const double *doses, size_t n_doses, const double *grams, size_t n_grams,
+                     const uint64_t *groups, size_t n_groups, uint64_t group_count,
+                     const uint64_t *effects, size_t n_effects,
+                     const double *starts, size_t n_starts, const double *lower, size_t n_lower,
+                     const double *upper, size_t n_upper, const double *group_lower, size_t n_group_lower,
+                     const double *group_upper, size_t n_group_upper,
+                     uint64_t max_rounds, uint64_t reml, uint64_t n_agq, uint64_t max_narrowings,
+                     double *theta, double *criterion, uint64_t *narrowings, uint64_t *converged, uint64_t *fits);
 
 #ifdef __cplusplus
 }

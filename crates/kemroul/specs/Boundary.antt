@@ -6,6 +6,8 @@ use mathlib.Core.Option.{Option, none, some}
 use lib.Ieee.{Float}
 use Rattle.fit.specs.declared.Fitted.{Fitted}
 use Rattle.fit.specs.Answer.{Told}
+use Rattle.golden.specs.declared.Found.{Found}
+use Rattle.golden.specs.Search as Search
 use Rattle.criterion.specs.declared.profile.Profile.{Profile}
 use Rattle.criterion.specs.Answer as Criterion
 
@@ -56,3 +58,21 @@ profileOr (some p) n values effects criterion sigma2 = record { number = n; valu
 
 unfoldable pub criterionLeft : Criterion.Told → Float → Float → CriterionLeft
 criterionLeft t criterion sigma2 = profileOr (t .profile) (t .number) (t .values) (t .effects) criterion sigma2
+
+-- what a search leaves: the number, and theta, the criterion there, the narrowings, whether it converged and the fits behind the pointers
+pub record SearchLeft : Type 0 where
+  pub number : ℕ
+  pub theta : Float
+  pub criterion : Float
+  pub narrowings : ℕ
+  pub converged : ℕ
+  pub fits : ℕ
+
+abbrev pub foundOr : Option Found → ℕ → Float → Float → ℕ → ℕ → ℕ → SearchLeft
+foundOr none n theta criterion narrowings converged fits =
+    record { number = n; theta = theta; criterion = criterion; narrowings = narrowings; converged = converged; fits = fits }
+foundOr (some f) n theta criterion narrowings converged fits =
+    record { number = n; theta = f .theta; criterion = f .criterion; narrowings = f .narrowings; converged = flagOf (f .converged); fits = f .fits }
+
+unfoldable pub searchLeft : Search.Told → Float → Float → ℕ → ℕ → ℕ → SearchLeft
+searchLeft t theta criterion narrowings converged fits = foundOr (t .found) (t .number) theta criterion narrowings converged fits

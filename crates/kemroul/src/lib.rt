@@ -2,6 +2,7 @@
 use criterion::Answer as Profiled;
 use curves::Answer;
 use fit::Answer as Fit;
+use golden::Answer as Searched;
 use self_start::Answer as Started;
 ghost use mathlib.Core.Path.{_≡_};
 ghost use mathlib.Core.List.{[], _∷_};
@@ -10,11 +11,12 @@ ghost use Rattle.quadrature.specs.Orders.{orderOrZero};
 ghost use Rattle.self_start.specs.Start.{faultOf, writtenOf};
 ghost use lib.ListN.{length};
 ghost use Rattle.criterion.specs.Answer as Criterion;
+ghost use Rattle.golden.specs.Search as Search;
 ghost use Rattle.fit.specs.Answer.{callOf};
 ghost use lib.Dec.{eqb};
 ghost use mathlib.Core.Bool.{not};
 ghost use Rattle.problem.specs.Problem.{problemOf};
-ghost use Rattle.kemroul.specs.Boundary.{handed, flagOf, FitLeft, fitLeft, CriterionLeft, criterionLeft};
+ghost use Rattle.kemroul.specs.Boundary.{handed, flagOf, FitLeft, fitLeft, CriterionLeft, criterionLeft, SearchLeft, searchLeft};
 ghost use Rattle.math.specs.Exp.{expOf};
 ghost use Rattle.math.specs.Ln.{lnOf};
 ghost use Rattle.math.specs.Sqrt.{sqrtOf};
@@ -226,6 +228,76 @@ pub extern "C" fn kemroul_criterion(
         Profiled::Done(p) => {
             *criterion = p.criterion;
             *sigma2 = p.sigma2;
+            0
+        }
+    }
+}
+
+// Any value of reml but 0 counts as 1.
+#[no_mangle]
+pub extern "C" fn kemroul_search(
+    code: u64,
+    doses: &[f64],
+    grams: &[f64],
+    group: &[usize],
+    groups: usize,
+    effects: &[usize],
+    starts: &[f64],
+    lower: &[f64],
+    upper: &[f64],
+    group_lower: &[f64],
+    group_upper: &[f64],
+    max_rounds: u64,
+    reml: u64,
+    n_agq: u64,
+    max_narrowings: u64,
+    theta: &mut f64,
+    criterion: &mut f64,
+    narrowings: &mut u64,
+    converged: &mut u64,
+    fits: &mut u64,
+) -> u64
+    ensures { λ r. ⌜
+        searchLeft
+        (Search.callOf
+        (problemOf code (now (doses .entry)) (now (grams .entry)) (now (group .entry)) groups (now (effects .entry))
+        (now (starts .entry)) (now (lower .entry)) (now (upper .entry)) (now («group_lower» .entry)) (now («group_upper» .entry)) [])
+        «max_rounds» (not (eqb reml 0)) «n_agq» «max_narrowings»)
+        (now (theta .entry)) (now (criterion .entry)) (now (narrowings .entry)) (now (converged .entry)) (now (fits .entry))
+        ≡ record {
+          number = r;
+          theta = now (theta .exit);
+          criterion = now (criterion .exit);
+          narrowings = now (narrowings .exit);
+          converged = now (converged .exit);
+          fits = now (fits .exit);
+        } ⌝ }
+{
+    let answer = golden::search(
+        code,
+        doses,
+        grams,
+        group,
+        groups,
+        effects,
+        starts,
+        lower,
+        upper,
+        group_lower,
+        group_upper,
+        max_rounds,
+        reml != 0,
+        n_agq,
+        max_narrowings,
+    );
+    match answer {
+        Searched::Refused(n) => n,
+        Searched::Done(f) => {
+            *theta = f.theta;
+            *criterion = f.criterion;
+            *narrowings = f.narrowings;
+            *converged = flag(f.converged);
+            *fits = f.fits;
             0
         }
     }

@@ -1,0 +1,7 @@
+mod Near
+mod Ops
+mod Table
+mod Points
+pub mod Demand3
+mod Loop
+mod Call
