@@ -1,9 +1,12 @@
 -- What the test of an estimated root goes by: the square of s, of at most 53 digits, is u * 2 ^ 52 + w, taken apart at 26 digits; and only one whole number is
 -- nearest to a root. Assumes nothing.
-use mathlib.Core.Path.{_≡_, sym, ap, _∙_}
+use mathlib.Core.Path.{_≡_, refl, sym, ap, _∙_}
+use mathlib.Core.Bool.{Bool, true, false, cond}
 use Prim.Native.Nat.{ℕ, _+_, _-_, _*_, _/_, _%_, _^_, _<_, _≤_}
 use native.Mathlib.Nat.{add-mul, mul-add, mul-assoc, mul-comm, mul-left-comm, mul-le-mul, mul-le-mul-left}
 use native.Mathlib.Omega.{arith}
+use lib.Dec.{ltb}
+use borrow.Author.Tests.{ltb-true, ltb-false}
 use Rattle.math.specs.Sqrt.{root, nearestRoot}
 use Rattle.math.proofs.Nearest.{Near, nearest-right}
 
@@ -41,9 +44,36 @@ module _ (s : ℕ) where
     pub low-small : low * low ≤ 2 ^ 52
     low-small = mul-le-mul {n₂ = 2 ^ 26} {m₂ = 2 ^ 26} (omega arith) (omega arith)
 
--- both tests hold: s is nearest
-pub tested : (m s : ℕ) → whole s ≤ m + 4 → rest s + 2 ^ 54 < (m + 4 - whole s) * 2 ^ 52 + s → (m + 4 - whole s) * 2 ^ 52 ≤ rest s + 2 ^ 54 + s → (s * s < m * 2 ^ 52 + s) × (m * 2 ^ 52 ≤ s * s + s)
-tested m s h k l = (omega (arith, square-is s), omega (arith, square-is s))
+-- what lies between the square and m * 2 ^ 52
+pub apart-by : (m s : ℕ) → whole s ≤ m + 4 → (m + 4 - whole s) * 2 ^ 52 + s * s ≡ m * 2 ^ 52 + (rest s + 2 ^ 54)
+apart-by m s h = omega (arith, square-is s)
+
+-- s, with one added where n lies above q + s, and one taken away where it does not lie above q - s, is nearest
+module _ (m s n q : ℕ) (two : 2 ≤ s) (e : n + s * s ≡ m * 2 ^ 52 + q) (low : q + 2 < n + 3 * s) (top : n ≤ q + 3 * s + 2) where
+  next-square : (r s : ℕ) → r ≡ s + 1 → r * r ≡ s * s + 2 * s + 1
+  next-square r s h = rw h (omega (arith, add-mul s 1 (s + 1), mul-add s s 1))
+
+  abbrev Tested : ℕ → Type 0
+  Tested r = (r * r < m * 2 ^ 52 + r) × (m * 2 ^ 52 ≤ r * r + r)
+
+  pub neighbour : (r a b : ℕ) → a ≡ cond (ltb (q + s) n) 1 0 → b ≡ cond (ltb q (n + s)) 1 0 → r ≡ s + a + b - 1 → Tested r
+  neighbour r a b = by-tests (ltb (q + s) n) refl (ltb q (n + s)) refl
+    where
+      by-tests : (t : Bool) → ltb (q + s) n ≡ t → (u : Bool) → ltb q (n + s) ≡ u → a ≡ cond t 1 0 → b ≡ cond u 1 0 → r ≡ s + a + b - 1 → Tested r
+      by-tests true g true f ea eb h =
+          let z : r ≡ s + 1 = omega (arith, ea, eb, h) in
+          let v : r * r ≡ s * s + 2 * s + 1 = next-square r s z in
+          let w : q + s < n = ltb-true (q + s) n g in
+          (omega (arith, v, w, z, e), omega (arith, v, z, e, top))
+      by-tests true g false f ea eb h = absurd (omega (arith, ltb-true (q + s) n g, ltb-false q (n + s) f))
+      by-tests false g true f ea eb h =
+          let z : r ≡ s = omega (arith, ea, eb, h) in
+          let v : r * r ≡ s * s = ap (λ (x : ℕ). x * x) z in
+          (omega (arith, v, z, e, ltb-true q (n + s) f), omega (arith, v, z, e, ltb-false (q + s) n g))
+      by-tests false g false f ea eb h =
+          let z : s ≡ r + 1 = omega (arith, ea, eb, h) in
+          let v : s * s ≡ r * r + 2 * r + 1 = next-square s r z in
+          (omega (arith, v, z, e, low), omega (arith, v, z, e, ltb-false q (n + s) f))
 
 -- two that are nearest to the root of n are one
 no-less : (s t n : ℕ) → Near s n → Near t n → s < t → ⊥
