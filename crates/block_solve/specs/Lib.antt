@@ -1,3 +1,4 @@
 pub mod Normal
+pub mod Blocks
 pub mod Direction
 pub mod Computes

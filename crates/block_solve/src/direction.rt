@@ -24,9 +24,9 @@ pub struct Eliminated {
     pub w: [f64; 256],
 }
 
-fn damped_block(random: [f64; 128], g: usize, damping: f64) -> [[f64; 2]; 2]
+fn damped_block(random: &[f64; 128], g: usize, damping: f64) -> [[f64; 2]; 2]
     requires { ⌜ g < 32 ⌝ }
-    ensures { λ r. ⌜ r ≡ dampedBlock random g damping ⌝ }
+    ensures { λ r. ⌜ r ≡ dampedBlock (now (random .entry)) g damping ⌝ }
 {
     let at = g * 4;
     let a = random[at];
@@ -66,9 +66,9 @@ fn dot(k: usize, a: f64, b: f64, x: f64, y: f64) -> f64
     0.0 + a * x + b * y
 }
 
-fn solve_columns(k: usize, c: [[f64; 2]; 2], cross: [f64; 256], g: usize, p: usize) -> Columns
+fn solve_columns(k: usize, c: [[f64; 2]; 2], cross: &[f64; 256], g: usize, p: usize) -> Columns
     requires { ⌜ (g < 32) × (p ≤ 4) ⌝ }
-    ensures { λ o. ⌜ o ≡ columnsFrom k c cross g p 0 (replicate 8 zero) ⌝ }
+    ensures { λ o. ⌜ o ≡ columnsFrom k c (now (cross .entry)) g p 0 (replicate 8 zero) ⌝ }
 {
     let mut w = [0.0; 8];
     let mut j = 0usize;
@@ -92,7 +92,7 @@ fn solve_columns(k: usize, c: [[f64; 2]; 2], cross: [f64; 256], g: usize, p: usi
 fn reduce(
     s: System,
     k: usize,
-    cross: [f64; 256],
+    cross: &[f64; 256],
     g: usize,
     p: usize,
     x: f64,
@@ -100,7 +100,7 @@ fn reduce(
     w: [f64; 8],
 ) -> System
     requires { ⌜ (g < 32) × (p ≤ 4) ⌝ }
-    ensures { λ o. ⌜ o ≡ reduceBy k cross g p x y w s ⌝ }
+    ensures { λ o. ⌜ o ≡ reduceBy k (now (cross .entry)) g p x y w s ⌝ }
 {
     let mut z = s;
     let mut i = 0usize;
@@ -122,17 +122,15 @@ fn reduce(
     z
 }
 
-fn store_columns(to: [f64; 256], g: usize, x: [f64; 8]) -> [f64; 256]
+fn store_columns(w: &mut [f64; 256], g: usize, x: [f64; 8])
     requires { ⌜ g < 32 ⌝ }
-    ensures { λ o. ⌜ o ≡ storeColumns g x to ⌝ }
+    ensures { λ _. ⌜ now (w .exit) ≡ storeColumns g x (now (w .entry)) ⌝ }
 {
-    let mut w = to;
     let mut i = 0usize;
     while i < 8 {
         w[g * 8 + i] = x[i];
         i += 1;
     }
-    w
 }
 
 fn eliminate_groups(n: BlockNormal, p: usize, k: usize, groups: usize, damping: f64) -> Eliminated
@@ -147,7 +145,7 @@ fn eliminate_groups(n: BlockNormal, p: usize, k: usize, groups: usize, damping: 
     let rhs = n.random_rhs;
     let mut g = 0usize;
     while g < groups {
-        let c = damped_block(random, g, damping);
+        let c = damped_block(&random, g, damping);
         let at = g * 2;
         let Solved::Pair(x, y) = linalg::pair::solve_pair(k, c, rhs[at], rhs[at + 1]) else {
             return Eliminated {
@@ -157,7 +155,7 @@ fn eliminate_groups(n: BlockNormal, p: usize, k: usize, groups: usize, damping: 
                 w: w,
             };
         };
-        let columns = solve_columns(k, c, cross, g, p);
+        let columns = solve_columns(k, c, &cross, g, p);
         if !columns.found {
             return Eliminated {
                 found: false,
@@ -167,11 +165,10 @@ fn eliminate_groups(n: BlockNormal, p: usize, k: usize, groups: usize, damping: 
             };
         }
         let cw = columns.w;
-        s = reduce(s, k, cross, g, p, x, y, cw);
+        s = reduce(s, k, &cross, g, p, x, y, cw);
         v[at] = x;
         v[at + 1] = y;
-        let kw = store_columns(w, g, cw);
-        w = kw;
+        store_columns(&mut w, g, cw);
         g += 1;
     }
     Eliminated {

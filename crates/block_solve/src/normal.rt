@@ -2,6 +2,7 @@
 ghost use mathlib.Core.Path.{_≡_};
 ghost use Prim.Native.Nat.{_*_, _≤_, _<_};
 ghost use lib.ListN.{length};
+ghost use Rattle.block_solve.specs.Blocks.{fixedOf, fixedRhsOf, crossOf, randomOf, randomRhsOf};
 ghost use Rattle.block_solve.specs.Normal.{emptyOf, addReading, accumulateOf, timesOf, addPriors, priorOf};
 
 // fixed: 4 by 4. For each group, cross: 4 by 2, random: 2 by 2, random_rhs: 2. All row after row.
@@ -13,7 +14,83 @@ pub struct BlockNormal {
     pub random_rhs: [f64; 64],
 }
 
-// One reading: f has the gradients by the p curve values, r those by the k effects, y is the residual.
+// What one reading adds to each block: f has the gradients by the p curve values, r those by the k effects,
+// y is the residual. The blocks are lent one by one, so that a loop over readings copies none of them.
+pub fn add_fixed(fixed: &mut [f64; 16], p: usize, f: [f64; 4])
+    requires { ⌜ p ≤ 4 ⌝ }
+    ensures { λ _. ⌜ now (fixed .exit) ≡ fixedOf p f (now (fixed .entry)) ⌝ }
+{
+    let mut i = 0usize;
+    while i < p {
+        let a = f[i];
+        let mut j = 0usize;
+        while j < p {
+            let at = i * 4 + j;
+            fixed[at] = fixed[at] + a * f[j];
+            j += 1;
+        }
+        i += 1;
+    }
+}
+
+pub fn add_fixed_rhs(rhs: &mut [f64; 4], p: usize, f: [f64; 4], y: f64)
+    requires { ⌜ p ≤ 4 ⌝ }
+    ensures { λ _. ⌜ now (rhs .exit) ≡ fixedRhsOf p f y (now (rhs .entry)) ⌝ }
+{
+    let mut i = 0usize;
+    while i < p {
+        rhs[i] = rhs[i] + f[i] * y;
+        i += 1;
+    }
+}
+
+pub fn add_cross(cross: &mut [f64; 256], group: usize, p: usize, f: [f64; 4], k: usize, r: [f64; 2])
+    requires { ⌜ (group < 32) × ((p ≤ 4) × (k ≤ 2)) ⌝ }
+    ensures { λ _. ⌜ now (cross .exit) ≡ crossOf group p f k r (now (cross .entry)) ⌝ }
+{
+    let mut i = 0usize;
+    while i < p {
+        let a = f[i];
+        let mut l = 0usize;
+        while l < k {
+            let at = group * 8 + i * 2 + l;
+            cross[at] = cross[at] + a * r[l];
+            l += 1;
+        }
+        i += 1;
+    }
+}
+
+pub fn add_random(random: &mut [f64; 128], group: usize, k: usize, r: [f64; 2])
+    requires { ⌜ (group < 32) × (k ≤ 2) ⌝ }
+    ensures { λ _. ⌜ now (random .exit) ≡ randomOf group k r (now (random .entry)) ⌝ }
+{
+    let mut i = 0usize;
+    while i < k {
+        let a = r[i];
+        let mut j = 0usize;
+        while j < k {
+            let at = group * 4 + i * 2 + j;
+            random[at] = random[at] + a * r[j];
+            j += 1;
+        }
+        i += 1;
+    }
+}
+
+pub fn add_random_rhs(rhs: &mut [f64; 64], group: usize, k: usize, r: [f64; 2], y: f64)
+    requires { ⌜ (group < 32) × (k ≤ 2) ⌝ }
+    ensures { λ _. ⌜ now (rhs .exit) ≡ randomRhsOf group k r y (now (rhs .entry)) ⌝ }
+{
+    let mut i = 0usize;
+    while i < k {
+        let at = group * 2 + i;
+        rhs[at] = rhs[at] + r[i] * y;
+        i += 1;
+    }
+}
+
+// One reading, added to all blocks.
 fn add_reading(
     normal: BlockNormal,
     group: usize,
@@ -27,37 +104,11 @@ fn add_reading(
     ensures { λ o. ⌜ o ≡ addReading group p f k r y normal ⌝ }
 {
     let mut n = normal;
-    let mut i = 0usize;
-    while i < p {
-        let a = f[i];
-        n.fixed_rhs[i] = n.fixed_rhs[i] + a * y;
-        let mut j = 0usize;
-        while j < p {
-            let at = i * 4 + j;
-            n.fixed[at] = n.fixed[at] + a * f[j];
-            j += 1;
-        }
-        let mut l = 0usize;
-        while l < k {
-            let at = group * 8 + i * 2 + l;
-            n.cross[at] = n.cross[at] + a * r[l];
-            l += 1;
-        }
-        i += 1;
-    }
-    let mut h = 0usize;
-    while h < k {
-        let a = r[h];
-        let at = group * 2 + h;
-        n.random_rhs[at] = n.random_rhs[at] + a * y;
-        let mut j = 0usize;
-        while j < k {
-            let at = group * 4 + h * 2 + j;
-            n.random[at] = n.random[at] + a * r[j];
-            j += 1;
-        }
-        h += 1;
-    }
+    add_fixed(&mut n.fixed, p, f);
+    add_fixed_rhs(&mut n.fixed_rhs, p, f, y);
+    add_cross(&mut n.cross, group, p, f, k, r);
+    add_random(&mut n.random, group, k, r);
+    add_random_rhs(&mut n.random_rhs, group, k, r, y);
     n
 }
 

@@ -1,6 +1,6 @@
 -- What the proofs of this crate share: sizes, loops that agree turn by turn, and the curves kept in a list. Assumes nothing.
 use Prim.Native.Nat.{ℕ, zero, suc, _+_, _*_, _≤_, _<_}
-use mathlib.Core.Path.{_≡_, refl, ap, _∙_}
+use mathlib.Core.Path.{_≡_, refl, sym, ap, _∙_}
 use mathlib.Core.List.{List}
 use native.Mathlib.Omega.{arith}
 use native.Mathlib.Nat.{mul-le-mul-right}
@@ -11,7 +11,9 @@ use lib.Seq.{getD-set-same, getD-set-other}
 use Rattle.math.specs.Loops.{iter}
 use Rattle.math.specs.Parts.{group-fits}
 use Rattle.curves.specs.declared.Mean.{Mean}
-use Rattle.block_solve.specs.Normal.{emptyOf}
+use Rattle.block_solve.specs.declared.normal.BlockNormal.{BlockNormal}
+use Rattle.block_solve.specs.Normal.{emptyOf, accumulateOf, accumulate-fits}
+use Rattle.block_solve.specs.Blocks.{fixedOf, crossOf, randomOf, fixedRhsOf, randomRhsOf, adds-to-each}
 use Rattle.state.specs.declared.State.{State}
 use Rattle.state.specs.Penalized.{meanIn, storedMean, Means}
 use Rattle.state.specs.Normal.{readingOf, readingAt, readingIn, readingsOf, readingsIn}
@@ -111,3 +113,10 @@ module _ (code : ℕ) (effects : List ℕ) (doses grams : List Float) (group : L
   readings-kept s means h =
       iter-same (readingIn code effects doses grams group lower upper means) (readingAt code effects doses grams group lower upper s) (length doses) emptyOf
       (λ i n p. ap (λ y. readingOf code effects doses grams group lower upper i y n) (h .held i p))
+
+-- a reading added block by block is accumulated
+pub by-blocks : (g p : ℕ) (f : List Float) (k : ℕ) (r : List Float) (y : Float) (n : BlockNormal) → g < 32 → p ≤ 4 → k ≤ 2 → {a b c d e : List Float}
+    → a ≡ fixedOf p f (n .fixed) → b ≡ crossOf g p f k r (n .cross) → c ≡ randomOf g k r (n .random) → d ≡ fixedRhsOf p f y (n .«fixed_rhs»)
+    → e ≡ randomRhsOf g k r y (n .«random_rhs»)
+    → record { fixed = a; cross = b; random = c; «fixed_rhs» = d; «random_rhs» = e } ≡ accumulateOf g p f k r y n
+by-blocks g p f k r y n u v w h i j l m = rw (h, i, j, l, m) (sym (adds-to-each g p f k r y n) ∙ sym (accumulate-fits g p f k r y n u v w))

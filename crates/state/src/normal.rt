@@ -2,6 +2,11 @@
 use crate::State;
 use crate::penalized::load_mean;
 use block_solve::normal::BlockNormal;
+use block_solve::normal::add_cross;
+use block_solve::normal::add_fixed;
+use block_solve::normal::add_fixed_rhs;
+use block_solve::normal::add_random;
+use block_solve::normal::add_random_rhs;
 use curves::Mean;
 use curves::mean_fn::n_params;
 ghost use mathlib.Core.Path.{_≡_};
@@ -50,7 +55,7 @@ fn random_gradients(effects: &[usize], y: Mean) -> [f64; 2]
     [d[j], d[l]]
 }
 
-// The readings in order, from their curves in means.
+// The readings in order, from their curves in means: each is accumulated block by block, in place.
 fn readings(
     code: u64,
     effects: &[usize],
@@ -73,8 +78,13 @@ fn readings(
         let y = load_mean(means, i);
         let f = fixed_gradients(lower, upper, y);
         let r = random_gradients(effects, y);
-        let m = n.accumulate(group[i], p, f, k, r, grams[i] - y.mu);
-        n = m;
+        let g = group[i];
+        let e = grams[i] - y.mu;
+        add_fixed(&mut n.fixed, p, f);
+        add_fixed_rhs(&mut n.fixed_rhs, p, f, e);
+        add_cross(&mut n.cross, g, p, f, k, r);
+        add_random(&mut n.random, g, k, r);
+        add_random_rhs(&mut n.random_rhs, g, k, r, e);
         i += 1;
     }
     n

@@ -3,9 +3,6 @@ use Rattle.block_solve.specs.Direction.{dampedBlock}
 use borrow.Author.Needs.{needs}
 use Rattle.block_solve.proofs.direction.damped_block.Statement.{statement}
 use Rattle.block_solve.proofs.direction.damped_block.Tie as tie
-use Rattle.block_solve.proofs.direction.damped_block.Reads as reads
-use Rattle.block_solve.proofs.direction.damped_block.Lts as lts
-use Rattle.math.proofs.max.Reads as max-reads
 
 mul-at : tie.Need-mul-at
 mul-at c = search needs
@@ -13,8 +10,8 @@ mul-at c = search needs
 mul-a : tie.Need-mul-a
 mul-a c = search needs
 
-array-read-a : tie.Need-array-read-a
-array-read-a c = search needs
+element-copy-out-a : tie.Need-element-copy-out-a
+element-copy-out-a c = search needs
 
 add-d : tie.Need-add-d
 add-d c = search needs
@@ -22,8 +19,8 @@ add-d c = search needs
 mul-d : tie.Need-mul-d
 mul-d c = search needs
 
-array-read-d : tie.Need-array-read-d
-array-read-d c = search needs
+element-copy-out-d : tie.Need-element-copy-out-d
+element-copy-out-d c = search needs
 
 max-requires : tie.Need-max-requires
 max-requires c κs = search needs
@@ -31,27 +28,27 @@ max-requires c κs = search needs
 max-requires-2 : tie.Need-max-requires-2
 max-requires-2 c κs = search needs
 
-add-t10 : tie.Need-add-t10
-add-t10 c = search needs
+add-t9 : tie.Need-add-t9
+add-t9 c = search needs
 
-mul-t14 : tie.Need-mul-t14
-mul-t14 c = search needs
+mul-t13 : tie.Need-mul-t13
+mul-t13 c = search needs
 
-array-read-t20 : tie.Need-array-read-t20
-array-read-t20 c = search needs
+element-copy-out-t19 : tie.Need-element-copy-out-t19
+element-copy-out-t19 c = search needs
 
-add-t22 : tie.Need-add-t22
-add-t22 c = search needs
+add-t21 : tie.Need-add-t21
+add-t21 c = search needs
 
-mul-t23 : tie.Need-mul-t23
-mul-t23 c = search needs
+mul-t22 : tie.Need-mul-t22
+mul-t22 c = search needs
 
-array-read-t26 : tie.Need-array-read-t26
-array-read-t26 c = search needs
+element-copy-out-t25 : tie.Need-element-copy-out-t25
+element-copy-out-t25 c = search needs
 
 returns : tie.Need-returns
 unfolding dampedBlock
-returns c = rw (c .max2 .ensures, c .before .max .ensures)
+returns c = rw (c .before .before .max2 .ensures, c .before .before .before .max .ensures)
 
 pub damped-block-spec : {M : Type 1} → statement M
 damped-block-spec =
@@ -59,16 +56,16 @@ damped-block-spec =
     (tie.spec
     mul-at
     mul-a
-    array-read-a
+    element-copy-out-a
     add-d
     mul-d
-    array-read-d
+    element-copy-out-d
     max-requires
     max-requires-2
-    add-t10
-    mul-t14
-    array-read-t20
-    add-t22
-    mul-t23
-    array-read-t26
+    add-t9
+    mul-t13
+    element-copy-out-t19
+    add-t21
+    mul-t22
+    element-copy-out-t25
     returns)

@@ -6,22 +6,14 @@ use mathlib.Core.Path.{_≡_, refl, sym, ap, _∙_}
 use Prim.Native.Nat.{ℕ, _-_, _+_, _*_, _≤_, _<_}
 use Rattle.math.specs.Loops.{pick-true, pick-false}
 use mathlib.Core.Bool.{true, false, cond, not}
-use borrow.Author.Needs.{needs}
 use borrow.Author.Tests.{not-true, not-false}
 use Rattle.block_solve.specs.Direction.{untouched, groupsFrom, eliminatedOf}
 use Rattle.block_solve.proofs.Laws.{groups-stop, groups-go, groups-done}
 use Rattle.linalg.specs.Pair.{isNone}
 use native.Mathlib.Omega.{arith}
+use borrow.Author.Needs.{needs}
 use Rattle.block_solve.proofs.direction.eliminate_groups.Statement.{statement}
 use Rattle.block_solve.proofs.direction.eliminate_groups.Tie as tie
-use Rattle.block_solve.proofs.direction.eliminate_groups.Reads as reads
-use Rattle.block_solve.proofs.direction.eliminate_groups.Lts as lts
-use Rattle.block_solve.proofs.direction.solve_columns.Reads as columns-of-reads
-use Rattle.block_solve.proofs.direction.damped_block.Reads as damped-reads
-use Rattle.linalg.proofs.pair.solve_pair.Reads as group-reads
-use Rattle.block_solve.proofs.direction.store_columns.Reads as kept-reads
-use Rattle.block_solve.proofs.direction.reduce.Reads as reduced-reads
-use Rattle.block_solve.proofs.direction.damped_fixed.Reads as start-reads
 
 abbrev Inv-loop : tie.InvT-loop
 Inv-loop p k groups damping s₀ v₀ w₀ random cross rhs g₀ s v w g = (g ≤ groups) × (groupsFrom random cross rhs p k groups damping g (record { found = true; s = s; v = v; w = w }) ≡ groupsFrom random cross rhs p k groups damping g₀ (record { found = true; s = s₀; v = v₀; w = w₀ }))
@@ -68,13 +60,13 @@ enum-told c = search needs
 returns : tie.Need-returns Inv-loop μ-loop
 unfolding eliminatedOf
 returns c = let k = c .before .before in
-    let o = k .before .before .before .loop in
-    let b = k .before .before .before .before .before .before .before .before in
+    let o = k .before .before .before .before .loop in
+    let b = k .before .before .before .before .before .before .before .before .before in
     let a = b .args in
     let n = a .n in
-    let fin = o .inv .1 ∙ ap (λ s. groupsFrom (n .random) (n .cross) (n .«random_rhs») (a .p) (a .k) (a .groups) (a .damping) 0 (untouched s)) (k .before .before .before .before .before .before .before .damped-fixed .ensures) in
+    let fin = o .inv .1 ∙ ap (λ s. groupsFrom (n .random) (n .cross) (n .«random_rhs») (a .p) (a .k) (a .groups) (a .damping) 0 (untouched s)) (k .before .before .before .before .before .before .before .before .damped-fixed .ensures) in
     let e = sym (rw (k .before .damped-block .ensures) at (k .solve-pair .ensures)) ∙ c .enum-told .given .1 in
-    sym (groups-stop (n .random) (n .cross) (n .«random_rhs») (a .p) (a .k) (a .groups) (a .damping) (o .g) (record { found = true; s = o .s; v = o .v; w = o .w }) (k .before .before .loop-test .taken) (pick-true _ _ _ (ap isNone e))) ∙ fin
+    sym (groups-stop (n .random) (n .cross) (n .«random_rhs») (a .p) (a .k) (a .groups) (a .damping) (o .g) (record { found = true; s = o .s; v = o .v; w = o .w }) (k .before .before .before .loop-test .taken) (pick-true _ _ _ (ap isNone e))) ∙ fin
 
 solve-columns-requires : tie.Need-solve-columns-requires Inv-loop μ-loop
 solve-columns-requires c κs = omega arith
@@ -82,16 +74,16 @@ solve-columns-requires c κs = omega arith
 returns-2 : tie.Need-returns-2 Inv-loop μ-loop
 unfolding eliminatedOf
 returns-2 c = let j = c .before .before in
-    let k = j .before .before .before .before in
-    let o = k .before .before .before .loop in
-    let b = k .before .before .before .before .before .before .before .before in
+    let k = j .before .before .before .before .before in
+    let o = k .before .before .before .before .loop in
+    let b = k .before .before .before .before .before .before .before .before .before in
     let a = b .args in
     let n = a .n in
-    let fin = o .inv .1 ∙ ap (λ s. groupsFrom (n .random) (n .cross) (n .«random_rhs») (a .p) (a .k) (a .groups) (a .damping) 0 (untouched s)) (k .before .before .before .before .before .before .before .damped-fixed .ensures) in
-    let e = sym (rw (k .before .damped-block .ensures) at (k .solve-pair .ensures)) ∙ j .before .before .x .given .1 in
+    let fin = o .inv .1 ∙ ap (λ s. groupsFrom (n .random) (n .cross) (n .«random_rhs») (a .p) (a .k) (a .groups) (a .damping) 0 (untouched s)) (k .before .before .before .before .before .before .before .before .damped-fixed .ensures) in
+    let e = sym (rw (k .before .damped-block .ensures) at (k .solve-pair .ensures)) ∙ j .before .before .before .x .given .1 in
     let d = rw (k .before .damped-block .ensures) at (j .solve-columns .ensures) in
     let f = sym (ap (λ (z : Columns). z .found) d) ∙ not-true _ (c .if1 .taken) in
-    sym (groups-stop (n .random) (n .cross) (n .«random_rhs») (a .p) (a .k) (a .groups) (a .damping) (o .g) (record { found = true; s = o .s; v = o .v; w = o .w }) (k .before .before .loop-test .taken) (pick-false _ _ _ (ap isNone e) ∙ ap not f)) ∙ fin
+    sym (groups-stop (n .random) (n .cross) (n .«random_rhs») (a .p) (a .k) (a .groups) (a .damping) (o .g) (record { found = true; s = o .s; v = o .v; w = o .w }) (k .before .before .before .loop-test .taken) (pick-false _ _ _ (ap isNone e) ∙ ap not f)) ∙ fin
 
 reduce-requires : tie.Need-reduce-requires Inv-loop μ-loop
 reduce-requires c κs = omega arith
@@ -112,25 +104,25 @@ array-write-v-2 : tie.Need-array-write-v-2 Inv-loop μ-loop
 array-write-v-2 c = omega arith
 
 store-columns-requires : tie.Need-store-columns-requires Inv-loop μ-loop
-store-columns-requires c κs = omega arith
+store-columns-requires c κs = omega (arith, c .before .before .before .before .before .before .before .before .before .before .before .before .before .before .loop-test .taken, c .before .before .before .before .before .before .before .before .before .before .before .before .before .before .before .before .before .before .before .before .pre .1)
 
 add-g : tie.Need-add-g Inv-loop μ-loop
-add-g c = omega arith
+add-g c = omega (arith, c .before .before .before .before .before .before .before .before .before .before .before .before .before .before .before .loop-test .taken, c .before .before .before .before .before .before .before .before .before .before .before .before .before .before .before .before .before .before .before .before .before .pre .1)
 
 loop-less : tie.Need-loop-less Inv-loop μ-loop
-loop-less c = omega arith
+loop-less c = omega (arith, c .before .before .before .before .before .before .before .before .before .before .before .before .before .before .before .loop-test .taken, c .before .before .before .before .before .before .before .before .before .before .before .before .before .before .before .before .before .before .before .before .before .pre .1)
 
 loop-again : tie.Need-loop-again Inv-loop μ-loop
-loop-again c = let j = c .before .before .before .before .before in
-    let k = j .before .before .before .before in
-    let o = k .before .before .before .loop in
-    let a = k .before .before .before .before .before .before .before .before .args in
+loop-again c = let j = c .before .before .before .before .before .before .before in
+    let k = j .before .before .before .before .before in
+    let o = k .before .before .before .before .loop in
+    let a = k .before .before .before .before .before .before .before .before .before .args in
     let n = a .n in
-    let e = sym (rw (k .before .damped-block .ensures) at (k .solve-pair .ensures)) ∙ j .before .before .x .given .1 in
+    let e = sym (rw (k .before .damped-block .ensures) at (k .solve-pair .ensures)) ∙ j .before .before .before .x .given .1 in
     let d = rw (k .before .damped-block .ensures) at (j .solve-columns .ensures) in
-    let f = sym (ap (λ (z : Columns). z .found) d) ∙ not-false _ (c .before .before .before .if1 .left) in
-    let h = groups-go (n .random) (n .cross) (n .«random_rhs») (a .p) (a .k) (a .groups) (a .damping) (o .g) (record { found = true; s = o .s; v = o .v; w = o .w }) (k .before .before .loop-test .taken) (pick-false _ _ _ (ap isNone e) ∙ ap not f) in
-    (omega arith, rw (c .before .reduce .ensures, c .store-columns .ensures) (sym (simp (e, ← d) at h) ∙ o .inv .1))
+    let f = sym (ap (λ (z : Columns). z .found) d) ∙ not-false _ (c .before .before .before .before .before .if1 .left) in
+    let h = groups-go (n .random) (n .cross) (n .«random_rhs») (a .p) (a .k) (a .groups) (a .damping) (o .g) (record { found = true; s = o .s; v = o .v; w = o .w }) (k .before .before .before .loop-test .taken) (pick-false _ _ _ (ap isNone e) ∙ ap not f) in
+    (omega (arith, c .before .before .before .before .before .before .before .before .before .before .before .before .before .before .before .loop-test .taken, c .before .before .before .before .before .before .before .before .before .before .before .before .before .before .before .before .before .before .before .before .before .pre .1), rw (c .before .before .reduce .ensures, c .store-columns .ensures) (sym (simp (e, ← d) at h) ∙ o .inv .1))
 
 returns-3 : tie.Need-returns-3 Inv-loop μ-loop
 unfolding eliminatedOf

@@ -4,23 +4,21 @@ use Prim.Native.Nat.{ℕ, _-_, _+_, _*_, _≤_, _<_}
 use Rattle.math.specs.Loops.{span, span-none, span-more, span-all}
 use Rattle.block_solve.specs.Direction.{reduceAt, reduceRow, reduceBy}
 use native.Mathlib.Omega.{arith}
+use borrow.Author.Needs.{needs}
 use Rattle.block_solve.proofs.direction.reduce.Statement.{statement}
 use Rattle.block_solve.proofs.direction.reduce.Tie as tie
-use Rattle.block_solve.proofs.direction.reduce.Reads as reads
-use Rattle.block_solve.proofs.direction.reduce.Lts as lts
-use Rattle.block_solve.proofs.direction.dot.Reads as dot-reads
 
 abbrev Inv-loop2 : tie.InvT-loop2
-Inv-loop2 k g p x y cross w z₀ i at a b j₀ z j = (j ≤ p) × ((z .a ≡ span (reduceAt k cross g p x y w i) 0 j (z₀ .a)) × (z .b ≡ z₀ .b))
+Inv-loop2 k cross g p x y w z₀ i at a b j₀ z j = (j ≤ p) × ((z .a ≡ span (reduceAt k cross g p x y w i) 0 j (z₀ .a)) × (z .b ≡ z₀ .b))
 
 abbrev μ-loop2 : tie.MeasureT-loop2
-μ-loop2 k g p x y cross w z₀ i at a b j₀ z j = p - j
+μ-loop2 k cross g p x y w z₀ i at a b j₀ z j = p - j
 
 abbrev Inv-loop : tie.InvT-loop
-Inv-loop k g p x y cross w z₀ i₀ z i = (i ≤ p) × (z ≡ span (reduceRow k cross g p x y w) 0 i z₀)
+Inv-loop k cross g p x y w z₀ i₀ z i = (i ≤ p) × (z ≡ span (reduceRow k cross g p x y w) 0 i z₀)
 
 abbrev μ-loop : tie.MeasureT-loop
-μ-loop k g p x y cross w z₀ i₀ z i = p - i
+μ-loop k cross g p x y w z₀ i₀ z i = p - i
 
 loop-holds : tie.Need-loop-holds Inv-loop2 μ-loop2 Inv-loop μ-loop
 loop-holds c = (omega arith, span-none _ _ _)
@@ -37,8 +35,8 @@ add-at c = omega arith
 mul-a : tie.Need-mul-a Inv-loop2 μ-loop2 Inv-loop μ-loop
 mul-a c = omega arith
 
-array-read-a : tie.Need-array-read-a Inv-loop2 μ-loop2 Inv-loop μ-loop
-array-read-a c = omega arith
+element-copy-out-a : tie.Need-element-copy-out-a Inv-loop2 μ-loop2 Inv-loop μ-loop
+element-copy-out-a c = omega arith
 
 add-b : tie.Need-add-b Inv-loop2 μ-loop2 Inv-loop μ-loop
 add-b c = omega arith
@@ -46,8 +44,8 @@ add-b c = omega arith
 mul-b : tie.Need-mul-b Inv-loop2 μ-loop2 Inv-loop μ-loop
 mul-b c = omega arith
 
-array-read-b : tie.Need-array-read-b Inv-loop2 μ-loop2 Inv-loop μ-loop
-array-read-b c = omega arith
+element-copy-out-b : tie.Need-element-copy-out-b Inv-loop2 μ-loop2 Inv-loop μ-loop
+element-copy-out-b c = omega arith
 
 loop2-holds : tie.Need-loop2-holds Inv-loop2 μ-loop2 Inv-loop μ-loop
 loop2-holds c = (omega arith, (span-none _ _ _, refl))
@@ -101,8 +99,7 @@ loop2-less : tie.Need-loop2-less Inv-loop2 μ-loop2 Inv-loop μ-loop
 loop2-less c = omega arith
 
 loop2-again : tie.Need-loop2-again Inv-loop2 μ-loop2 Inv-loop μ-loop
-loop2-again c =
-    let t = c .before .before .before .loop2 .inv in
+loop2-again c = let t = c .before .before .before .loop2 .inv in
     (omega arith, (rw (c .before .dot .ensures) (span-more _ _ _ _ (omega arith) (t .1 .0)), t .1 .1))
 
 dot-requires-2 : tie.Need-dot-requires-2 Inv-loop2 μ-loop2 Inv-loop μ-loop
@@ -127,12 +124,11 @@ loop-less : tie.Need-loop-less Inv-loop2 μ-loop2 Inv-loop μ-loop
 loop-less c = omega arith
 
 loop-again : tie.Need-loop-again Inv-loop2 μ-loop2 Inv-loop μ-loop
-loop-again c =
-    let a = c .before .before .before .before .before .before .args in
-    let o = c .before .before .before .before .before .loop in
+loop-again c = let a = c .before .before .before .before .before .before .before .before .args in
+    let o = c .before .before .before .before .before .before .before .loop in
     let t = c .before .before .before .loop2 .inv in
     let e = span-all _ 0 (a .p) _ _ (t .1 .0) (t .0) (c .before .before .loop2-test .left) in
-    (omega arith, rw (c .before .dot2 .ensures, e, t .1 .1) (span-more (reduceRow (a .k) (a .t3) (a .g) (a .p) (a .x) (a .y) (a .t8)) 0 (o .i) (a .s) (omega arith) (o .inv .1)))
+    (omega arith, rw (c .before .dot2 .ensures, e, t .1 .1) (span-more (reduceRow (a .k) (a .cross .now) (a .g) (a .p) (a .x) (a .y) (a .t8)) 0 (o .i) (a .s) (omega arith) (o .inv .1)))
 
 returns : tie.Need-returns Inv-loop2 μ-loop2 Inv-loop μ-loop
 unfolding reduceBy
@@ -151,10 +147,10 @@ reduce-spec =
     mul-at-2
     add-at
     mul-a
-    array-read-a
+    element-copy-out-a
     add-b
     mul-b
-    array-read-b
+    element-copy-out-b
     loop2-holds
     mul-dot
     mul-dot-2

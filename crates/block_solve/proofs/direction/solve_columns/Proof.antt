@@ -1,23 +1,20 @@
 -- What is left of the definition, from the columns reached, is the definition from the start. Assumes nothing.
 use mathlib.Core.Path.{_≡_, refl, sym, ap, _∙_}
 use Prim.Native.Nat.{ℕ, _-_, _+_, _*_, _≤_, _<_}
-use borrow.Author.Needs.{needs}
 use Rattle.linalg.specs.Pair.{first, second, isNone}
 use Rattle.block_solve.specs.Direction.{columnOf, columnsFrom}
 use Rattle.block_solve.proofs.Laws.{columns-stop, columns-go, columns-done}
 use mathlib.Core.Bool.{true, false}
 use native.Mathlib.Omega.{arith}
+use borrow.Author.Needs.{needs}
 use Rattle.block_solve.proofs.direction.solve_columns.Statement.{statement}
 use Rattle.block_solve.proofs.direction.solve_columns.Tie as tie
-use Rattle.block_solve.proofs.direction.solve_columns.Reads as reads
-use Rattle.block_solve.proofs.direction.solve_columns.Lts as lts
-use Rattle.linalg.proofs.pair.solve_pair.Reads as solve-pair-reads
 
 abbrev Inv-loop : tie.InvT-loop
-Inv-loop k c g p cross w₀ j₀ w j = (j ≤ p) × (columnsFrom k c cross g p j w ≡ columnsFrom k c cross g p j₀ w₀)
+Inv-loop k c cross g p w₀ j₀ w j = (j ≤ p) × (columnsFrom k c cross g p j w ≡ columnsFrom k c cross g p j₀ w₀)
 
 abbrev μ-loop : tie.MeasureT-loop
-μ-loop k c g p cross w₀ j₀ w j = p - j
+μ-loop k c cross g p w₀ j₀ w j = p - j
 
 loop-holds : tie.Need-loop-holds Inv-loop μ-loop
 loop-holds c = (omega arith, refl)
@@ -34,8 +31,8 @@ add-at c = omega arith
 mul-solve-pair : tie.Need-mul-solve-pair Inv-loop μ-loop
 mul-solve-pair c = omega arith
 
-array-read-solve-pair : tie.Need-array-read-solve-pair Inv-loop μ-loop
-array-read-solve-pair c = omega arith
+element-copy-out-solve-pair : tie.Need-element-copy-out-solve-pair Inv-loop μ-loop
+element-copy-out-solve-pair c = omega arith
 
 add-solve-pair : tie.Need-add-solve-pair Inv-loop μ-loop
 add-solve-pair c = omega arith
@@ -43,8 +40,8 @@ add-solve-pair c = omega arith
 mul-solve-pair-2 : tie.Need-mul-solve-pair-2 Inv-loop μ-loop
 mul-solve-pair-2 c = omega arith
 
-array-read-solve-pair-2 : tie.Need-array-read-solve-pair-2 Inv-loop μ-loop
-array-read-solve-pair-2 c = omega arith
+element-copy-out-solve-pair-2 : tie.Need-element-copy-out-solve-pair-2 Inv-loop μ-loop
+element-copy-out-solve-pair-2 c = omega arith
 
 solve-pair-requires : tie.Need-solve-pair-requires Inv-loop μ-loop
 solve-pair-requires c κs = tt
@@ -56,11 +53,10 @@ enum-told : tie.Need-enum-told Inv-loop μ-loop
 enum-told c = search needs
 
 returns : tie.Need-returns Inv-loop μ-loop
-returns c =
-    let a = c .before .before .before .before .before .args in
-    let t = c .before .before .before .before .loop in
+returns c = let a = c .before .before .before .before .before .before .before .args in
+    let t = c .before .before .before .before .before .before .loop in
     let e = sym (c .before .before .solve-pair .ensures) ∙ c .enum-told .given .1 in
-    sym (columns-stop (a .k) (a .c) (a .t3) (a .g) (a .p) (t .j) (t .w) (c .before .before .before .loop-test .taken) (ap isNone e)) ∙ t .inv .1
+    sym (columns-stop (a .k) (a .c) (a .cross .now) (a .g) (a .p) (t .j) (t .w) (c .before .before .before .before .before .loop-test .taken) (ap isNone e)) ∙ t .inv .1
 
 mul-to : tie.Need-mul-to Inv-loop μ-loop
 mul-to c = omega arith
@@ -87,18 +83,16 @@ loop-less : tie.Need-loop-less Inv-loop μ-loop
 loop-less c = omega arith
 
 loop-again : tie.Need-loop-again Inv-loop μ-loop
-loop-again c =
-    let a = c .before .before .before .before .before .before .args in
-    let t = c .before .before .before .before .before .loop in
+loop-again c = let a = c .before .before .before .before .before .before .before .before .args in
+    let t = c .before .before .before .before .before .before .before .loop in
     let e = sym (c .before .before .before .solve-pair .ensures) ∙ c .before .x .given .1 in
-    let h = columns-go (a .k) (a .c) (a .t3) (a .g) (a .p) (t .j) (t .w) (c .before .before .before .before .loop-test .taken) (ap isNone e) in
+    let h = columns-go (a .k) (a .c) (a .cross .now) (a .g) (a .p) (t .j) (t .w) (c .before .before .before .before .before .before .loop-test .taken) (ap isNone e) in
     (omega arith, sym (simp e at h) ∙ t .inv .1)
 
 returns-2 : tie.Need-returns-2 Inv-loop μ-loop
-returns-2 c =
-    let a = c .before .before .args in
+returns-2 c = let a = c .before .before .args in
     let t = c .before .loop in
-    sym (columns-done (a .k) (a .c) (a .t3) (a .g) (a .p) (t .j) (t .w) (c .loop-test .left)) ∙ t .inv .1
+    sym (columns-done (a .k) (a .c) (a .cross .now) (a .g) (a .p) (t .j) (t .w) (c .loop-test .left)) ∙ t .inv .1
 
 pub solve-columns-spec : {M : Type 1} → statement M
 solve-columns-spec =
@@ -111,10 +105,10 @@ solve-columns-spec =
     mul-at-2
     add-at
     mul-solve-pair
-    array-read-solve-pair
+    element-copy-out-solve-pair
     add-solve-pair
     mul-solve-pair-2
-    array-read-solve-pair-2
+    element-copy-out-solve-pair-2
     solve-pair-requires
     enum-known-x
     enum-told

@@ -3,16 +3,15 @@ use Prim.Native.Nat.{ℕ, _-_, _+_, _*_, _≤_, _<_}
 use Rattle.math.specs.Loops.{span, span-none, span-more, span-all}
 use Rattle.block_solve.specs.Direction.{storeAt, storeColumns}
 use native.Mathlib.Omega.{arith}
+use borrow.Author.Needs.{needs}
 use Rattle.block_solve.proofs.direction.store_columns.Statement.{statement}
 use Rattle.block_solve.proofs.direction.store_columns.Tie as tie
-use Rattle.block_solve.proofs.direction.store_columns.Reads as reads
-use Rattle.block_solve.proofs.direction.store_columns.Lts as lts
 
 abbrev Inv-loop : tie.InvT-loop
-Inv-loop g x w₀ i₀ w i = (i ≤ 8) × (w ≡ span (storeAt g x) 0 i w₀)
+Inv-loop w₀ g x i₀ w i = (i ≤ 8) × (w ≡ span (storeAt g x) 0 i w₀)
 
 abbrev μ-loop : tie.MeasureT-loop
-μ-loop g x w₀ i₀ w i = 8 - i
+μ-loop w₀ g x i₀ w i = 8 - i
 
 loop-holds : tie.Need-loop-holds Inv-loop μ-loop
 loop-holds c = (omega arith, span-none _ _ _)
@@ -32,8 +31,8 @@ add-w c = omega arith
 mul-w-3 : tie.Need-mul-w-3 Inv-loop μ-loop
 mul-w-3 c = omega arith
 
-array-write-w : tie.Need-array-write-w Inv-loop μ-loop
-array-write-w c = omega arith
+element-write-w : tie.Need-element-write-w Inv-loop μ-loop
+element-write-w c = omega arith
 
 add-i : tie.Need-add-i Inv-loop μ-loop
 add-i c = omega arith
@@ -60,7 +59,7 @@ store-columns-spec =
     mul-w-2
     add-w
     mul-w-3
-    array-write-w
+    element-write-w
     add-i
     loop-less
     loop-again

@@ -8,9 +8,6 @@ use Rattle.block_solve.specs.Normal.{priorAt, priorRow, priorGroup, addP
 use native.Mathlib.Omega.{arith}
 use Rattle.block_solve.proofs.normal.add_priors.Statement.{statement}
 use Rattle.block_solve.proofs.normal.add_priors.Tie as tie
-use Rattle.block_solve.proofs.normal.add_priors.Reads as reads
-use Rattle.block_solve.proofs.normal.add_priors.Lts as lts
-use Rattle.block_solve.proofs.normal.times.Reads as times-reads
 
 abbrev Inv-loop3 : tie.InvT-loop3
 Inv-loop3 k groups b inverse n₀ g from i j₀ n j = (j ≤ k) × (n ≡ iter (priorAt k inverse b g i) j n₀)

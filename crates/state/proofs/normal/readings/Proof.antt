@@ -1,4 +1,4 @@
--- `readings`: the blocks of the readings before i, each from its curve in the list. Assumes nothing.
+-- `readings`: the blocks of the readings before i, each from its curve in the list; a reading is added block by block. Assumes nothing.
 use mathlib.Core.Path.{_∙_, _≡_}
 use Prim.Native.Nat.{_-_, _≤_}
 use native.Mathlib.Omega.{arith}
@@ -7,6 +7,8 @@ use lib.ListN.{length}
 use Rattle.math.specs.Loops.{iter, iter-all, iter-more, iter-none}
 use Rattle.block_solve.specs.Normal.{emptyOf}
 use Rattle.state.specs.Normal.{readingIn, readingsIn}
+use Rattle.state.specs.Sized.{few-params}
+use Rattle.state.proofs.Laws.{by-blocks}
 use Rattle.state.proofs.normal.readings.Statement.{statement}
 use Rattle.state.proofs.normal.readings.Tie as tie
 
@@ -34,29 +36,44 @@ fixed-gradients-requires c κs = search needs
 random-gradients-requires : tie.Need-random-gradients-requires Inv-loop μ-loop
 random-gradients-requires c κs = search needs
 
-mul-accumulate : tie.Need-mul-accumulate Inv-loop μ-loop
-mul-accumulate c = omega (arith, c .before .before .before .loop-test .taken, c .before .before .before .before .before .before .before .before .before .before .before .before .before .before .pre .1 .0 .many)
+mul-g : tie.Need-mul-g Inv-loop μ-loop
+mul-g c = omega (arith, c .before .before .before .loop-test .taken, c .before .before .before .before .before .before .before .before .before .before .before .before .before .before .pre .1 .0 .many)
 
-shared-slice-read-accumulate : tie.Need-shared-slice-read-accumulate Inv-loop μ-loop
-shared-slice-read-accumulate c = omega (arith, c .before .before .before .before .loop-test .taken, c .before .before .before .before .before .before .before .before .before .before .before .before .before .before .before .pre .1 .0 .group-each)
+shared-slice-read-g : tie.Need-shared-slice-read-g Inv-loop μ-loop
+shared-slice-read-g c = omega (arith, c .before .before .before .before .loop-test .taken, c .before .before .before .before .before .before .before .before .before .before .before .before .before .before .before .pre .1 .0 .group-each)
 
-mul-accumulate-2 : tie.Need-mul-accumulate-2 Inv-loop μ-loop
-mul-accumulate-2 c = omega (arith, c .before .before .before .before .loop-test .taken, c .before .before .before .before .before .before .before .before .before .before .before .before .before .before .before .pre .1 .0 .many)
+mul-e : tie.Need-mul-e Inv-loop μ-loop
+mul-e c = omega (arith, c .before .before .before .before .loop-test .taken, c .before .before .before .before .before .before .before .before .before .before .before .before .before .before .before .pre .1 .0 .many)
 
-shared-slice-read-accumulate-2 : tie.Need-shared-slice-read-accumulate-2 Inv-loop μ-loop
-shared-slice-read-accumulate-2 c = omega (arith, c .before .before .before .before .before .loop-test .taken, c .before .before .before .before .before .before .before .before .before .before .before .before .before .before .before .before .pre .1 .0 .grams-each)
+shared-slice-read-e : tie.Need-shared-slice-read-e Inv-loop μ-loop
+shared-slice-read-e c = omega (arith, c .before .before .before .before .before .loop-test .taken, c .before .before .before .before .before .before .before .before .before .before .before .before .before .before .before .before .pre .1 .0 .grams-each)
 
-accumulate-requires : tie.Need-accumulate-requires Inv-loop μ-loop
-accumulate-requires c κs = search needs
+add-fixed-requires : tie.Need-add-fixed-requires Inv-loop μ-loop
+add-fixed-requires c κs = few-params _ _ (c .before .before .before .before .before .before .before .before .before .before .n-params .ensures)
+
+add-fixed-rhs-requires : tie.Need-add-fixed-rhs-requires Inv-loop μ-loop
+add-fixed-rhs-requires c κs = few-params _ _ (c .before .before .before .before .before .before .before .before .before .before .before .before .n-params .ensures)
+
+add-cross-requires : tie.Need-add-cross-requires Inv-loop μ-loop
+add-cross-requires c κs = (c .before .before .before .before .before .before .before .before .before .before .before .before .before .before .before .before .before .before .before .before .before .before .pre .1 .0 .grouped (c .before .before .before .before .before .before .before .before .before .before .before .before .loop .i) (c .before .before .before .before .before .before .before .before .before .before .before .loop-test .taken), (few-params _ _ (c .before .before .before .before .before .before .before .before .before .before .before .before .before .before .n-params .ensures), c .before .before .before .before .before .before .before .before .before .before .before .before .before .before .before .before .before .before .before .before .before .before .pre .0 .two))
+
+add-random-requires : tie.Need-add-random-requires Inv-loop μ-loop
+add-random-requires c κs = (c .before .before .before .before .before .before .before .before .before .before .before .before .before .before .before .before .before .before .before .before .before .before .before .before .pre .1 .0 .grouped (c .before .before .before .before .before .before .before .before .before .before .before .before .before .before .loop .i) (c .before .before .before .before .before .before .before .before .before .before .before .before .before .loop-test .taken), c .before .before .before .before .before .before .before .before .before .before .before .before .before .before .before .before .before .before .before .before .before .before .before .before .pre .0 .two)
+
+add-random-rhs-requires : tie.Need-add-random-rhs-requires Inv-loop μ-loop
+add-random-rhs-requires c κs = (c .before .before .before .before .before .before .before .before .before .before .before .before .before .before .before .before .before .before .before .before .before .before .before .before .before .before .pre .1 .0 .grouped (c .before .before .before .before .before .before .before .before .before .before .before .before .before .before .before .before .loop .i) (c .before .before .before .before .before .before .before .before .before .before .before .before .before .before .before .loop-test .taken), c .before .before .before .before .before .before .before .before .before .before .before .before .before .before .before .before .before .before .before .before .before .before .before .before .before .before .pre .0 .two)
 
 add-i : tie.Need-add-i Inv-loop μ-loop
-add-i c = omega (arith, c .before .before .before .before .before .before .before .loop-test .taken, c .before .before .before .before .before .before .before .before .before .before .before .before .before .before .before .before .before .before .pre .1 .0 .many)
+add-i c = omega (arith, c .before .before .before .before .before .before .before .before .before .before .before .before .before .before .before .before .loop-test .taken, c .before .before .before .before .before .before .before .before .before .before .before .before .before .before .before .before .before .before .before .before .before .before .before .before .before .before .before .pre .1 .0 .many)
 
 loop-less : tie.Need-loop-less Inv-loop μ-loop
-loop-less c = omega (arith, c .before .before .before .before .before .before .before .loop-test .taken)
+loop-less c = omega (arith, c .before .before .before .before .before .before .before .before .before .before .before .before .before .before .before .before .loop-test .taken)
 
 loop-again : tie.Need-loop-again Inv-loop μ-loop
-loop-again c = (omega (arith, c .before .before .before .before .before .before .before .loop-test .taken), c .accumulate .ensures ∙ rw (c .before .before .before .before .before .before .before .before .before .before .n-params .ensures, c .before .before .before .before .before .fixed-gradients .ensures, c .before .before .before .before .random-gradients .ensures, c .before .before .before .before .before .before .load-mean .ensures) (iter-more _ _ _ (c .before .before .before .before .before .before .before .before .loop .inv .1)))
+loop-again c =
+    let first = by-blocks _ _ _ _ _ _ (c .before .before .before .before .before .before .before .before .before .before .before .before .before .before .before .before .before .loop .n) (c .before .before .before .before .before .before .before .before .before .before .before .before .before .before .before .before .before .before .before .before .before .before .before .before .before .before .before .pre .1 .0 .grouped (c .before .before .before .before .before .before .before .before .before .before .before .before .before .before .before .before .before .loop .i) (c .before .before .before .before .before .before .before .before .before .before .before .before .before .before .before .before .loop-test .taken)) (few-params _ _ (c .before .before .before .before .before .before .before .before .before .before .before .before .before .before .before .before .before .before .before .n-params .ensures)) (c .before .before .before .before .before .before .before .before .before .before .before .before .before .before .before .before .before .before .before .before .before .before .before .before .before .before .before .pre .0 .two)
+    (c .before .before .before .before .before .before .before .before .add-fixed .ensures) (c .before .before .before .before .add-cross .ensures) (c .before .before .add-random .ensures) (c .before .before .before .before .before .before .add-fixed-rhs .ensures) (c .add-random-rhs .ensures) in
+    (omega (arith, c .before .before .before .before .before .before .before .before .before .before .before .before .before .before .before .before .loop-test .taken), first ∙ rw (c .before .before .before .before .before .before .before .before .before .before .before .before .before .before .before .before .before .before .before .n-params .ensures, c .before .before .before .before .before .before .before .before .before .before .before .before .before .before .fixed-gradients .ensures, c .before .before .before .before .before .before .before .before .before .before .before .before .before .random-gradients .ensures, c .before .before .before .before .before .before .before .before .before .before .before .before .before .before .before .load-mean .ensures) (iter-more _ _ _ (c .before .before .before .before .before .before .before .before .before .before .before .before .before .before .before .before .before .loop .inv .1)))
 
 returns : tie.Need-returns Inv-loop μ-loop
 unfolding readingsIn
@@ -74,11 +91,15 @@ readings-spec =
     load-mean-requires
     fixed-gradients-requires
     random-gradients-requires
-    mul-accumulate
-    shared-slice-read-accumulate
-    mul-accumulate-2
-    shared-slice-read-accumulate-2
-    accumulate-requires
+    mul-g
+    shared-slice-read-g
+    mul-e
+    shared-slice-read-e
+    add-fixed-requires
+    add-fixed-rhs-requires
+    add-cross-requires
+    add-random-requires
+    add-random-rhs-requires
     add-i
     loop-less
     loop-again
