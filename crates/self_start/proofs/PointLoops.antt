@@ -1,4 +1,4 @@
--- The turns of the loops in `finite_pairs`, `average`, `range` and `window`: what each definition gives from index i on. Assumes nothing.
+-- The turns of the loops in `finite_pairs`, `average` and `range_of`: what each definition gives from index i on. Assumes nothing.
 use mathlib.Core.Path.{_≡_}
 use mathlib.Core.Bool.{true, false, _&&_}
 use mathlib.Core.List.{List, [], _∷_}
@@ -7,10 +7,10 @@ use native.Mathlib.Numerals.{add-one}
 use native.Mathlib.Omega.{arith}
 use lib.ListN.{length, drop, getD, drop-of-length-le}
 use lib.Seq.{drop-cons}
-use lib.Ieee.{Float, nan, le}
+use lib.Ieee.{Float, nan}
 use Rattle.math.specs.Basic.{isFinite, maxOf, minOf, add}
 use Rattle.self_start.specs.Pairs.{Pair, zip}
-use Rattle.self_start.specs.Points.{finitePairs, nearOf, meanOf, runOf, averagedOf, betweenOf, windowOf, largestOf, smallestOf}
+use Rattle.self_start.specs.Points.{finitePairs, nearOf, meanOf, runOf, averagedOf, largestOf, smallestOf}
 use Rattle.self_start.proofs.Zips.{pair-at, pairs-end}
 
 module _ (xs ys : List Float) (e : length ys ≡ length xs) (i : ℕ) where
@@ -40,18 +40,6 @@ module _ (xs ys : List Float) (e : length ys ≡ length xs) (i : ℕ) where
     unfolding runOf
     run-far f s n h = rw (pair-at xs ys e i p, h)
 
-    pub window-here : (q : Pair) (xout : Float) → le (q .0) xout ≡ true → le xout (getD xs i nan) ≡ true → windowOf q from xout ≡ betweenOf q here xout
-    unfolding windowOf
-    window-here q xout h g = rw (pair-at xs ys e i p, h, g)
-
-    pub window-low : (q : Pair) (xout : Float) → le (q .0) xout ≡ false → windowOf q from xout ≡ windowOf here next xout
-    unfolding windowOf
-    window-low q xout h = rw (pair-at xs ys e i p, h)
-
-    pub window-high : (q : Pair) (xout : Float) → le (q .0) xout ≡ true → le xout (getD xs i nan) ≡ false → windowOf q from xout ≡ windowOf here next xout
-    unfolding windowOf
-    window-high q xout h g = rw (pair-at xs ys e i p, h, g)
-
   module _ (p : length xs ≤ i) where
     pub finite-end : finitePairs from ≡ []
     unfolding finitePairs
@@ -60,10 +48,6 @@ module _ (xs ys : List Float) (e : length ys ≡ length xs) (i : ℕ) where
     pub run-end : (f s : Float) (n : ℕ) → runOf f s n from ≡ (f, meanOf s n) ∷ []
     unfolding runOf
     run-end f s n = rw (pairs-end xs ys e i p)
-
-    pub window-end : (q : Pair) (xout : Float) → windowOf q from xout ≡ q .1
-    unfolding windowOf
-    window-end q xout = rw (pairs-end xs ys e i p)
 
 module _ (xs ys : List Float) (e : length ys ≡ length xs) where
   pub averaged-some : 0 < length xs → averagedOf (zip xs ys) ≡ runOf (getD xs 0 nan) (getD ys 0 nan) 1 (drop 1 (zip xs ys))

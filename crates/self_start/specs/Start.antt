@@ -5,10 +5,12 @@ use Prim.Native.Nat.{ℕ, _/_}
 use lib.Dec.{ltb, eqb}
 use lib.ListN.{length}
 use lib.Ieee.{Float, lt, le}
-use Rattle.math.specs.Basic.{add, sub, mul, div, bits, zero, half, one, two, absOf, maxOf, isFinite}
-use Rattle.math.specs.Ln.{lnOf}
-use Rattle.self_start.specs.Pairs.{Pair, pairAt, zip, seconds}
-use Rattle.self_start.specs.Points.{sortedXyData, approxXFromY, mostOf, leastOf}
+use lib.Ieee as Ieee
+use Rattle.math.specs.Basic.{add, sub, mul, div, bits, zero, half, one, two, absOf, maxOf, minOf, isFinite}
+use Rattle.math.specs.Ln.{lnOf, ln-computes}
+use Rattle.self_start.specs.Pairs.{Pair, pairAt, zip, swapped, seconds}
+use Rattle.self_start.specs.Sort.{insert, insertAll}
+use Rattle.self_start.specs.Points.{finitePairs, nearOf, meanOf, runOf, averagedOf, sortedXyData, betweenOf, windowOf, approxOf, approxXFromY, largestOf, smallestOf, mostOf, leastOf}
 use Rattle.self_start.specs.declared.Answer.{Answer}
 use Rattle.self_start.specs.declared.Answer.the-variants.{Refused, Done}
 
@@ -125,3 +127,8 @@ numberOf Done = 0
 unfoldable pub writtenOf : ℕ → List Float → List Float → List Float → List Float
 writtenOf code doses grams values =
     cond (eqb (faultOf code (length doses) (length grams) (length values)) 0) (startOf code doses grams) values
+
+-- `unfolding start-computes` opens all that a value of writtenOf is computed by
+unfoldable pub start-computes : Unit {0}
+unfolding ln-computes zip swapped seconds insert insertAll finitePairs nearOf meanOf runOf averagedOf sortedXyData betweenOf windowOf approxOf approxXFromY largestOf smallestOf scalOf sslogisFrom sslogisStart lrcOf ssasympStart ssmicmenStart apartOf widthOf ssfplFrom ssfplStart countOf fromPoints startOf faultOf writtenOf absOf maxOf minOf isFinite Ieee.add Ieee.sub Ieee.mul Ieee.div Ieee.lt Ieee.le Ieee.eq Ieee.neg Ieee.ofBits Ieee.ofInt Ieee.isNan
+start-computes = tt

@@ -2,7 +2,7 @@
 use mathlib.Core.Path.{sym, ap, _∙_}
 use borrow.Author.Needs.{needs}
 use Rattle.self_start.specs.Start.{numberOf}
-use Rattle.self_start.specs.Examples.{number-of-answer}
+use Rattle.self_start.specs.Answers.{number-of-answer}
 use Rattle.kemroul.proofs.kemroul_start.Statement.{statement}
 use Rattle.kemroul.proofs.kemroul_start.Tie as tie
 

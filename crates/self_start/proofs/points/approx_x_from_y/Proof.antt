@@ -1,78 +1,91 @@
--- `approx_x_from_y` meets its contract: both lists are copied, the other way round, and sorted. Assumes nothing.
-use mathlib.Core.Path.{sym, _∙_}
-use lib.ListN.{length}
+-- `approx_x_from_y` meets its contract: the points from i on are put to the sides. Assumes nothing.
+use mathlib.Core.Path.{_≡_, sym, ap, _∙_}
+use Prim.Native.Nat.{_≤_}
+use lib.ListN.{length, drop}
+use Rattle.self_start.specs.Pairs.{zip}
 use Rattle.self_start.specs.Points.{approxXFromY}
-use Rattle.self_start.proofs.Lent.{front, lent-long, lent-take, lent-front}
+use Rattle.self_start.specs.Sides.{sidesOf, approxSides}
+use Rattle.self_start.proofs.Halves.{keyed-zip}
+use Rattle.self_start.proofs.SideLaws.{sides-none, sides-more, sides-approx}
 use Rattle.self_start.proofs.Zips.{zip-swapped}
 use native.Mathlib.Omega.{arith}
 use borrow.Author.Needs.{needs}
 use Rattle.self_start.proofs.points.approx_x_from_y.Statement.{statement}
 use Rattle.self_start.proofs.points.approx_x_from_y.Tie as tie
 
-padded-requires : tie.Need-padded-requires
-padded-requires c κs = search needs
+abbrev Inv-loop : tie.InvT-loop
+Inv-loop x y y-target other s₀ i₀ s i = (i ≤ length x) × (s ≡ sidesOf y-target (drop i (zip y x)))
 
-padded-requires-2 : tie.Need-padded-requires-2
-padded-requires-2 c κs = search needs
+abbrev μ-loop : tie.MeasureT-loop
+μ-loop x y y-target other s₀ i₀ s i = i
 
-array-borrow-prefix-u : tie.Need-array-borrow-prefix-u
-array-borrow-prefix-u c = search needs
+no-sides-requires : tie.Need-no-sides-requires Inv-loop μ-loop
+no-sides-requires c κs = search needs
 
-slice-aggregate-sort : tie.Need-slice-aggregate-sort
-slice-aggregate-sort c = front _ _ (omega arith)
+loop-holds : tie.Need-loop-holds Inv-loop μ-loop
+loop-holds c =
+    let a = c .before .before .before in
+    (omega arith, c .no-sides .ensures ∙ sides-none (a .args .y .now) (a .args .x .now) (a .pre .even) (a .args .y-target) (length (a .args .x .now)) (omega (arith, a .pre .even)))
 
-array-borrow-prefix-v : tie.Need-array-borrow-prefix-v
-array-borrow-prefix-v c = search needs
+sub-i : tie.Need-sub-i Inv-loop μ-loop
+sub-i c = omega arith
 
-slice-aggregate-sort-2 : tie.Need-slice-aggregate-sort-2
-slice-aggregate-sort-2 c = front _ _ (omega arith)
+mul-put : tie.Need-mul-put Inv-loop μ-loop
+mul-put c = omega arith
 
-sort-requires : tie.Need-sort-requires
-sort-requires c κs =
-    let a = c .before .before .before .before .before .before in
-    rw (rw (← a .pre .even) at (c .before .before .before .padded .ensures), c .before .before .padded2 .ensures) (a .pre)
+shared-slice-read-put : tie.Need-shared-slice-read-put Inv-loop μ-loop
+shared-slice-read-put c = omega arith
 
-array-share-prefix-u : tie.Need-array-share-prefix-u
-array-share-prefix-u c = lent-long (length (c .before .before .before .before .before .before .before .before .before .args .x .now)) (c .before .before .before .before .before .before .padded .result) (c .before .before .sort .last .0) (omega arith) (c .before .before .sort .kept .0)
+mul-put-2 : tie.Need-mul-put-2 Inv-loop μ-loop
+mul-put-2 c = let a = c .before .before .before .before .before .before in omega (arith, a .pre .even)
 
-slice-aggregate-approx : tie.Need-slice-aggregate-approx
-slice-aggregate-approx c = lent-front (length (c .before .before .before .before .before .before .before .before .before .before .args .x .now)) (c .before .before .before .before .before .before .before .padded .result) (c .before .before .before .sort .last .0) (omega arith) (c .before .before .before .sort .kept .0)
+shared-slice-read-put-2 : tie.Need-shared-slice-read-put-2 Inv-loop μ-loop
+shared-slice-read-put-2 c = let a = c .before .before .before .before .before .before .before in omega (arith, a .pre .even)
 
-array-share-prefix-v : tie.Need-array-share-prefix-v
-array-share-prefix-v c = lent-long (length (c .before .before .before .before .before .before .before .before .before .before .args .x .now)) (c .before .before .before .before .before .before .padded2 .result) (c .before .before .before .sort .last .1 .0) (omega arith) (c .before .before .before .sort .kept .1 .0)
+put-requires : tie.Need-put-requires Inv-loop μ-loop
+put-requires c κs = search needs
 
-slice-aggregate-approx-2 : tie.Need-slice-aggregate-approx-2
-slice-aggregate-approx-2 c = lent-front (length (c .before .before .before .before .before .before .before .before .before .before .before .args .x .now)) (c .before .before .before .before .before .before .before .padded2 .result) (c .before .before .before .before .sort .last .1 .0) (omega arith) (c .before .before .before .before .sort .kept .1 .0)
+loop-less : tie.Need-loop-less Inv-loop μ-loop
+loop-less c = omega arith
 
-approx-requires : tie.Need-approx-requires
-approx-requires c κs =
-    let n = length (c .before .before .before .before .before .before .before .before .before .before .before .args .x .now) in
-    let s = c .before .before .before .before .sort in
-    sym (lent-front n (c .before .before .before .before .before .before .before .padded2 .result) (s .last .1 .0) (omega arith) (s .kept .1 .0)) ∙ lent-front n (c .before .before .before .before .before .before .before .before .padded .result) (s .last .0) (omega arith) (s .kept .0)
+loop-again : tie.Need-loop-again Inv-loop μ-loop
+loop-again c =
+    let a = c .before .before .before .before .before .before .before .before in
+    let t = c .before .before .before .before .loop in
+    (omega arith, c .put .ensures ∙ sides-more (a .args .y .now) (a .args .x .now) (a .pre .even) (a .args .y-target) (t .i) (t .s) (c .before .before .before .loop-test .taken) (omega (arith, a .pre .even)) (t .inv .1))
 
-returns : tie.Need-returns
+approx-requires : tie.Need-approx-requires Inv-loop μ-loop
+approx-requires c κs = search needs
+
+returns : tie.Need-returns Inv-loop μ-loop
 unfolding approxXFromY
 returns c =
-    let a = c .before .before .before .before .before .before .before .before .before .before .before .before in
-    let n = length (a .args .x .now) in
-    let s = c .before .before .before .before .before .sort in
+    let a = c .before .before .before .before .before .before in
+    let x = a .args .x .now in
+    let y = a .args .y .now in
+    let t = c .before .before .loop in
+    let i : t .i ≡ 0 = omega (arith, c .before .loop-test .left) in
+    let s : t .s ≡ sidesOf (a .args .y-target) (zip y x) = rw i at (t .inv .1) in
     c .approx .ensures
-    ∙ rw (lent-take n (c .before .before .before .before .before .before .before .before .before .padded .result) (s .last .0) (omega arith) (s .kept .0), lent-take n (c .before .before .before .before .before .before .before .before .padded2 .result) (s .last .1 .0) (omega arith) (s .kept .1 .0), s .ensures, rw (← a .pre .even) at (c .before .before .before .before .before .before .before .before .before .padded .ensures), c .before .before .before .before .before .before .before .before .padded2 .ensures, zip-swapped (a .args .x .now) (a .args .y .now) (sym (a .pre .even)))
+    ∙ ap (λ r. approxSides r (a .args .y-target) (a .args .other)) s
+    ∙ sides-approx (a .args .y-target) (a .args .other) (zip y x) (keyed-zip y x (a .pre .numbers))
+    ∙ rw (zip-swapped x y (sym (a .pre .even)))
 
 pub approx-x-from-y-spec : {M : Type 1} → statement M
 approx-x-from-y-spec =
     tie.close
     (tie.spec
-    padded-requires
-    padded-requires-2
-    array-borrow-prefix-u
-    slice-aggregate-sort
-    array-borrow-prefix-v
-    slice-aggregate-sort-2
-    sort-requires
-    array-share-prefix-u
-    slice-aggregate-approx
-    array-share-prefix-v
-    slice-aggregate-approx-2
+    Inv-loop
+    μ-loop
+    no-sides-requires
+    loop-holds
+    sub-i
+    mul-put
+    shared-slice-read-put
+    mul-put-2
+    shared-slice-read-put-2
+    put-requires
+    loop-less
+    loop-again
     approx-requires
     returns)
