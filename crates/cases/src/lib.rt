@@ -3,6 +3,7 @@
 // its length and then its elements. No function here has a `requires`; a fault is an answer.
 pub mod cursor;
 pub mod digits;
+pub mod lent;
 pub mod lines;
 pub mod lists;
 pub mod same;

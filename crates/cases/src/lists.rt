@@ -51,7 +51,8 @@ pub fn floats(line: &[u8], c: Cursor, out: &mut [f64]) -> Counted
     Counted { len, next }
 }
 
-pub fn wholes(line: &[u8], c: Cursor, out: &mut [u64]) -> Counted
+// A list of whole numbers that are counts or indices.
+pub fn wholes(line: &[u8], c: Cursor, out: &mut [usize]) -> Counted
     ensures { λ r. ⌜ r ≡ listAt (afterWholes (now (line .entry))) (lengthAt (now (line .entry)) c (length (now (out .entry)))) ⌝ }
     ensures { λ r. ⌜ now (out .exit) ≡ overFront (wholesAt (now (line .entry))) (lengthAt (now (line .entry)) c (length (now (out .entry)))) (now (out .entry)) ⌝ }
     ensures { λ r. ⌜ r .len ≤ length (now (out .exit)) ⌝ }
@@ -62,7 +63,7 @@ pub fn wholes(line: &[u8], c: Cursor, out: &mut [u64]) -> Counted
     let mut i = 0;
     while i < len {
         let x = whole(line, next);
-        out[i] = x.value;
+        out[i] = x.value as usize;
         next = x.next;
         i += 1;
     }

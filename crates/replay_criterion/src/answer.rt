@@ -3,15 +3,11 @@ use cases::cursor::Cursor;
 use cases::cursor::float;
 use cases::cursor::named;
 use cases::cursor::whole;
+use cases::lent::begins_with;
+use cases::lent::kept;
 use cases::lists::floats;
 use cases::same::same_float;
-use cases::same::same_floats;
 use criterion::Answer;
-
-// What every float that is lent holds before a call, and keeps where the call refuses.
-pub fn kept() -> f64 {
-    math::words::of_bits(0x4010_dead_0000_beef)
-}
 
 // The returned number, 0 or the refusal, and what stands in the single outputs after the call.
 pub struct Told {
@@ -72,15 +68,6 @@ pub fn stored_at(line: &[u8], c: Cursor) -> Stored {
 
 fn same_told(a: Told, b: Told) -> bool {
     a.number == b.number && same_float(a.criterion, b.criterion) && same_float(a.sigma2, b.sigma2)
-}
-
-// Whether the stored list begins with these values.
-fn begins_with(stored: &[f64], values: &[f64]) -> bool {
-    let n = values.len();
-    if n > stored.len() {
-        return false;
-    }
-    same_floats(values, &stored[0..n])
 }
 
 // Whether a call's answer and both lists after it are the stored ones, given that the lengths are.
