@@ -1,0 +1,4 @@
+pub mod ScanLaws
+pub mod Tens
+pub mod PartLaws
+pub mod Nearest

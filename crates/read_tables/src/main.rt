@@ -1,0 +1,50 @@
+// Reads small tables, good and bad, into lists of four readings and two canisters, and writes for
+// each its fault, line, readings and canisters.
+use libc::STDOUT_FILENO;
+use readings::read_table;
+
+fn number(n: u64, after: &[u8]) {
+    io::print_decimal(STDOUT_FILENO, n);
+    io::write_all(STDOUT_FILENO, after);
+}
+
+fn shown(text: &[u8]) {
+    let mut doses = [0.0; 4];
+    let mut grams = [0.0; 4];
+    let mut groups = [0u64; 4];
+    let mut names = [0u64; 4];
+    let t = read_table(text, &mut doses, &mut grams, &mut groups, &mut names);
+    number(t.fault, b" ");
+    number(t.line, b" ");
+    number(t.count as u64, b" ");
+    number(t.canisters as u64, b"\n");
+}
+
+fn good() {
+    shown(b"1 2 a\n2 3 b\n3,4,a\n");
+    shown(b"dose;grams;canister\n1;2;a\r\n\n# note\n2 ; 3 ; a # last");
+    shown(b"\"dose\"\t\"grams\"\t\"can\"\n1.5\t\"2.5\"\t\"red-1\"\n");
+    shown(b"1 2 a\n1 2 b\n1 2 a\n1 2 b");
+}
+
+fn bad() {
+    shown(b"1 2\n");
+    shown(b"1 2 a b\n");
+    shown(b"1 2 a\n\nx 2 a\n");
+    shown(b"1 x a\n");
+    shown(b"1234567890123456 2 a\n");
+    shown(b"1 1e99 a\n");
+    shown(b"1 2 a!\n");
+    shown(b"1 2 \"\"\n");
+    shown(b"1 2 a\n1 2 a\n1 2 a\n1 2 a\n1 2 a\n");
+    shown(b"1 2 a\n1 2 b\n1 2 c\n");
+    shown(b"");
+    shown(b"dose grams can\ndose grams can\n");
+    shown(b"1,,a\n");
+    shown(b"1 2 a,\n");
+}
+
+fn main() {
+    good();
+    bad();
+}

@@ -1,0 +1,56 @@
+-- A field and a line, put together from their places as the definition does it. Assumes nothing.
+use Prim.Native.Nat.{ℕ, _+_, _-_, _<_, _≤_}
+use mathlib.Core.Path.{_≡_, refl}
+use mathlib.Core.Bool.{Bool, true, false, _&&_}
+use mathlib.Core.List.{List}
+use borrow.Author.Tests.{lt-ltb, le-ltb}
+use lib.Dec.{ltb, eqb}
+use lib.ListN.{length, take, drop}
+use Rattle.readings.specs.Bytes.{spaces, aWord, toQuote, toSeparator, toLetter, meets, scanOf}
+use Rattle.readings.specs.Row.{closingOf, wordOf, afterOf, nextOf, fieldOf, numberOf, namedOf, faultOf, rowOf}
+use Rattle.readings.specs.declared.row.Word.{Word}
+use Rattle.readings.specs.declared.row.Field.{Field}
+use Rattle.readings.specs.declared.row.Number.{Number}
+
+module _ (line : List ℕ) (at : ℕ) where
+  -- past the end nothing is met
+  pub nothing-met : (k : ℕ) → length line ≤ at → meets k line at ≡ false
+  unfolding meets
+  nothing-met k p = rw (le-ltb at (length line) p)
+
+  pub opens : (r : ℕ) → meets toQuote line at ≡ true → r ≡ scanOf toQuote line (at + 1) → r ≡ closingOf line at
+  unfolding closingOf
+  opens r h e = rw h e
+
+  pub opens-not : meets toQuote line at ≡ false → length line ≡ closingOf line at
+  unfolding closingOf
+  opens-not h = rw h
+
+  pub next-past : (r : ℕ) → meets toSeparator line at ≡ true → r ≡ scanOf spaces line (at + 1) → r ≡ nextOf line at
+  unfolding nextOf
+  next-past r h e = rw h e
+
+  pub next-here : meets toSeparator line at ≡ false → at ≡ nextOf line at
+  unfolding nextOf
+  next-here h = rw h
+
+  pub word-quoted : (close : ℕ) → close ≡ closingOf line at → close < length line → record { start = at + 1; stop = close; tail = close + 1 } ≡ wordOf line at
+  unfolding wordOf
+  word-quoted close e p = rw (← e, lt-ltb close (length line) p)
+
+  pub word-bare : (close stop : ℕ) → close ≡ closingOf line at → length line ≤ close → stop ≡ scanOf aWord line at → record { start = at; stop = stop; tail = stop } ≡ wordOf line at
+  unfolding wordOf
+  word-bare close stop e p s = rw (← e, le-ltb close (length line) p, s)
+
+  pub field-is : (w : Word) (after next : ℕ) → w ≡ wordOf line at → after ≡ scanOf spaces line (w .tail) → next ≡ nextOf line after → record { start = w .start; stop = w .stop; after = after; next = next } ≡ fieldOf line at
+  unfolding fieldOf afterOf
+  field-is w after next e a n = rw (n, a, e)
+
+  pub row-is : (first fault : ℕ) (d g c : Field) (dose grams : Number) (l m letters three name : Bool)
+      → first ≡ scanOf spaces line at → d ≡ fieldOf line first → g ≡ fieldOf line (d .next) → c ≡ fieldOf line (g .next)
+      → dose ≡ numberOf (take (d .stop - d .start) (drop (d .start) line)) → grams ≡ numberOf (take (g .stop - g .start) (drop (g .start) line))
+      → l ≡ meets toLetter line (d .start) → m ≡ meets toLetter line (g .start) → letters ≡ (l && m)
+      → three ≡ (ltb (g .next) (length line) && eqb (c .after) (length line)) → name ≡ namedOf line (c .start) (c .stop) → fault ≡ faultOf three (dose .fault) (grams .fault) name
+      → record { blank = eqb first (length line); letters = letters; fault = fault; dose = dose .value; grams = grams .value; start = c .start; stop = c .stop } ≡ rowOf line at
+  unfolding rowOf
+  row-is first fault d g c dose grams l m letters three name e1 e2 e3 e4 e5 e6 e7 e8 e9 e10 e11 e12 = rw (e12, e11, e10, e9, e8, e7, e6, e5, e4, e3, e2, e1)

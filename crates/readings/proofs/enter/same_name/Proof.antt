@@ -1,0 +1,51 @@
+-- Each test of the code is one of the definition. Assumes nothing.
+use mathlib.Core.Path.{refl}
+use borrow.Author.Tests.{le-leb, lt-leb}
+use Rattle.readings.specs.Table.{sameName}
+use borrow.Author.Needs.{needs}
+use Rattle.readings.proofs.enter.same_name.Statement.{statement}
+use Rattle.readings.proofs.enter.same_name.Tie as tie
+
+part-same-bytes-start : tie.Need-part-same-bytes-start
+part-same-bytes-start c = search needs
+
+part-same-bytes-end : tie.Need-part-same-bytes-end
+part-same-bytes-end c = search needs
+
+sub-same-bytes : tie.Need-sub-same-bytes
+sub-same-bytes c = search needs
+
+part-same-bytes-start-2 : tie.Need-part-same-bytes-start-2
+part-same-bytes-start-2 c = search needs
+
+part-same-bytes-end-2 : tie.Need-part-same-bytes-end-2
+part-same-bytes-end-2 c = search needs
+
+same-bytes-requires : tie.Need-same-bytes-requires
+same-bytes-requires c κs = search needs
+
+returns : tie.Need-returns
+unfolding sameName
+returns c = rw (le-leb _ _ (c .before .before .before .before .if1 .taken), le-leb _ _ (c .before .before .before .if2 .taken)) (c .same-bytes .ensures)
+
+returns-2 : tie.Need-returns-2
+unfolding sameName
+returns-2 c = rw (le-leb _ _ (c .before .if1 .taken), lt-leb _ _ (c .if2 .left))
+
+returns-3 : tie.Need-returns-3
+unfolding sameName
+returns-3 c = rw (lt-leb _ _ (c .if1 .left))
+
+pub same-name-spec : {M : Type 1} → statement M
+same-name-spec =
+    tie.close
+    (tie.spec
+    part-same-bytes-start
+    part-same-bytes-end
+    sub-same-bytes
+    part-same-bytes-start-2
+    part-same-bytes-end-2
+    same-bytes-requires
+    returns
+    returns-2
+    returns-3)
