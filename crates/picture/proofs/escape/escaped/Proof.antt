@@ -1,0 +1,52 @@
+-- The measure is the bytes that are left; each keeps the length of the buffer. Assumes nothing.
+use mathlib.Core.Path.{_≡_}
+use Prim.Native.Nat.{_-_}
+use borrow.Author.Needs.{needs}
+use lib.ListN.{length}
+use Rattle.picture.proofs.escape.escaped.Statement.{statement}
+use Rattle.picture.proofs.escape.escaped.Tie as tie
+
+abbrev Inv-loop : tie.InvT-loop
+Inv-loop out₀ text p₀ i₀ out p i = length out ≡ length out₀
+
+abbrev μ-loop : tie.MeasureT-loop
+μ-loop out₀ text p₀ i₀ out p i = length text - i
+
+loop-holds : tie.Need-loop-holds Inv-loop μ-loop
+loop-holds c = search needs
+
+shared-slice-read-byte : tie.Need-shared-slice-read-byte Inv-loop μ-loop
+shared-slice-read-byte c = search needs
+
+byte-requires : tie.Need-byte-requires Inv-loop μ-loop
+byte-requires c κs = search needs
+
+add-i : tie.Need-add-i Inv-loop μ-loop
+add-i c = search needs
+
+loop-less : tie.Need-loop-less Inv-loop μ-loop
+loop-less c = search needs
+
+loop-again : tie.Need-loop-again Inv-loop μ-loop
+loop-again c = search needs
+
+same-length : tie.Need-same-length Inv-loop μ-loop
+same-length c = search needs
+
+returns : tie.Need-returns Inv-loop μ-loop
+returns c = search needs
+
+pub escaped-spec : {M : Type 1} → statement M
+escaped-spec =
+    tie.close
+    (tie.spec
+    Inv-loop
+    μ-loop
+    loop-holds
+    shared-slice-read-byte
+    byte-requires
+    add-i
+    loop-less
+    loop-again
+    same-length
+    returns)
