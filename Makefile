@@ -7,8 +7,16 @@
 #   make strictmath      compares the oracle's exp, ln and sqrt with Java's StrictMath
 #   make distance        how far the unreplaced Rust (std's exp, ln, max, min; LAPACK) lies from the replaced one
 #   make sample          writes SAMPLE answered lines of OP to OUT
-#   make bench           times of the archive's operations and of the Rust's, on the same cases (bench/README.md)
-#   make instructions    their machine instructions, counted by callgrind
+#   make bench           builds the archive and the Rust, and prints the tables of docs/PERFORMANCE.md (bench/README.md)
+#   make performance     the same into docs/PERFORMANCE.md
+#   make instructions    without times, with the archive as it stands
+#
+# What the firmware engineer holds; these need the archive (`rt staticlib kemroul`):
+#
+#   make example         builds examples/c/refit.c and runs it
+#   make bindings-test   tests the header (as C99, C11 and C++, and against the exports), the example, and bindings/rust
+#   make stack           bytes of stack of each function of the header (bench/stack)
+#   make trials          rounds and trials of generated fits; needs what the oracle needs
 
 # The folder that holds the published Rust, as src/nlmm/fit.rs and so on.
 SOURCE ?= ../shared/docs/src
@@ -31,16 +39,18 @@ SAMPLE ?= 200
 LONGEST ?= 4000
 OUT ?= target/sample-$(OP).txt
 
-# The operations that are measured; of one that the archive lacks, the Rust alone.
-BENCH_OPS ?= $(OPS)
+# The operations that are measured on cases of gen, each in one row; the rows of named shapes follow.
+BENCH_OPS ?= exp ln sqrt gh_order curve
 BENCH_LINES ?= 2000
-# How long each line of the table of times is measured.
-BENCH_SECONDS ?= 3
+# How long each row is timed, and a text that the names of the rows must have.
+BENCH_SECONDS ?= 1
+BENCH_ROWS ?=
 # UNREPLACED=1 measures the whole of the unreplaced Rust too, which needs LAPACK.
 UNREPLACED ?=
 
 .PHONY: differential compare oracle oracle-test copy archive driver strictmath distance sample
-.PHONY: bench instructions bench-program machine
+.PHONY: bench measure performance instructions bench-program machine
+.PHONY: example bindings-test header-test stack trials
 
 copy:
 	@python3 oracle/copy_source.py $(SOURCE) oracle/target/copy
@@ -86,20 +96,64 @@ sample: oracle
 	@$(BIN)/gen --longest $(LONGEST) $(SEED) $(SAMPLE) $(OP)=$(SAMPLE) | $(BIN)/oracle > $(OUT)
 	@echo "$$(wc -l < $(OUT)) lines of $(OP), seed $(SEED), in $(OUT)"
 
-# The archive as it stands: `make archive bench` brings it up to date first.
 bench-program: oracle
 	@cd oracle && KEMROUL_ARCHIVE_DIR=$(abspath $(ARCHIVE_DIR)) $(CARGO) -p bench \
 	  --features "$(FEATURES) $(if $(UNREPLACED),unreplaced)"
 
 machine:
-	@echo "$$(date -u +%F), $$(lscpu | sed -n 's/^Model name: *//p'), $$(rustc --version)"
+	@echo "$$(date -u +%F), $$(lscpu | sed -n 's/^Model name: *//p'), $$(nproc) cores, load $$(cut -d' ' -f1 /proc/loadavg), $$(rustc --version), $$($${CC:-gcc} --version | head -1), seed $(SEED)"
+	@echo
 
-bench: bench-program machine
-	@echo "realistic cases, seed $(SEED)"
-	@$(BIN)/gen --realistic $(SEED) $(BENCH_LINES) $(BENCH_OPS) | $(BIN)/bench times $(BENCH_SECONDS)
+BENCH = $(BIN)/gen --realistic $(SEED) $(BENCH_LINES) $(BENCH_OPS) | $(BIN)/bench tables
+
+bench: archive
+	@$(MAKE) --no-print-directory measure
+
+# As `bench`, with the archive as it stands.
+measure: bench-program machine
+	@$(BENCH) $(BENCH_SECONDS) "$(BENCH_ROWS)"
+
+# Measures, and puts the tables below the last heading of docs/PERFORMANCE.md.
+performance: archive
+	@$(MAKE) --no-print-directory bench-program
+	@{ sed '/^## Measured$$/q' docs/PERFORMANCE.md; echo; $(MAKE) --no-print-directory machine; \
+	  $(BENCH) $(BENCH_SECONDS) "$(BENCH_ROWS)" || echo failed; } > target/PERFORMANCE.md
+	@! grep -q '^failed$$' target/PERFORMANCE.md
+	@mv target/PERFORMANCE.md docs/PERFORMANCE.md
 
 instructions: bench-program machine
-	@echo "single calls"
-	@$(BIN)/bench single
-	@echo "realistic cases, seed $(SEED)"
-	@$(BIN)/gen --realistic $(SEED) $(BENCH_LINES) $(BENCH_OPS) | $(BIN)/bench instructions
+	@$(BENCH) 0 "$(BENCH_ROWS)"
+
+CC = gcc
+CXX = g++
+STRICT = -Wall -Wextra -pedantic -Werror -Iinclude
+
+example:
+	@$(MAKE) --no-print-directory -C examples/c ARCHIVE_DIR=$(abspath $(ARCHIVE_DIR)) run
+
+bindings-test: header-test
+	@$(MAKE) --no-print-directory -C examples/c ARCHIVE_DIR=$(abspath $(ARCHIVE_DIR)) test
+	@cd bindings/rust && KEMROUL_ARCHIVE_DIR=$(abspath $(ARCHIVE_DIR)) cargo test -j1 --offline --quiet
+
+# The declarations as C and C++ read them, and against what the crate exports; docs/PROMISES.md against the sources.
+header-test:
+	@python3 bindings/declarations.py include/kemroul.h crates/kemroul/src/lib.rt
+	@python3 bindings/promises.py .
+	@for std in c99 c11; do $(CC) -std=$$std $(STRICT) -fsyntax-only -x c include/kemroul.h || exit 1; done
+	@for std in c++98 c++11; do $(CXX) -std=$$std $(STRICT) -fsyntax-only -x c++ include/kemroul.h || exit 1; done
+
+# A function moves the stack pointer once, at its beginning (stack.c); memcpy and memset are bound before the calls.
+stack: machine
+	@test -f $(ARCHIVE_DIR)/libkemroul.a || { echo "no $(ARCHIVE_DIR)/libkemroul.a: run 'rt staticlib kemroul' first" >&2; exit 1; }
+	@mkdir -p target
+	@$(CC) --version | sed -n 1p
+	@$(CC) -std=gnu99 -O1 -maccumulate-outgoing-args $(STRICT) -o target/stack bench/stack/stack.c $(ARCHIVE_DIR)/libkemroul.a -Wl,-z,now
+	@target/stack
+	@echo "bound over all paths of the machine code"
+	@python3 bench/stack/bound.py $(ARCHIVE_DIR)/libkemroul.a include/kemroul.h
+
+trials: driver
+	@echo "realistic cases, seed 20261115"
+	@$(BIN)/gen --realistic 20261115 1 fit=5000 | $(BIN)/driver | awk -f bench/stack/trials.awk
+	@echo "all cases, seed 20261117"
+	@$(BIN)/gen 20261117 1 fit=20000 | $(BIN)/driver | awk -f bench/stack/trials.awk
