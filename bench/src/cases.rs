@@ -1,10 +1,11 @@
-//! The cases: those of the standard input, by operation, and fixed single ones.
+//! The rows: cases of the standard input, by operation, and cases of named shapes.
 
 use crate::fail;
-use text::{Case, Line, Problem};
+use crate::shapes::Shape;
+use text::{Case, Line};
 
-/// What one line of a table is about.
-pub struct Group {
+/// What one row of a table is about.
+pub struct Row {
     pub label: String,
     pub operation: &'static str,
     pub cases: Vec<Case>,
@@ -42,96 +43,114 @@ pub fn all_read() -> Vec<Case> {
 }
 
 /// The cases of the standard input, by operation in the order of its first case.
-pub fn read() -> Vec<Group> {
-    let mut groups: Vec<Group> = Vec::new();
+pub fn read() -> Vec<Row> {
+    let mut rows: Vec<Row> = Vec::new();
     for case in all_read() {
         let operation = operation(&case);
-        match groups.iter_mut().find(|group| group.operation == operation) {
-            Some(group) => group.cases.push(case),
-            None => groups.push(Group {
+        match rows.iter_mut().find(|row| row.operation == operation) {
+            Some(row) => row.cases.push(case),
+            None => rows.push(Row {
                 label: operation.to_string(),
                 operation,
                 cases: vec![case],
             }),
         }
     }
-    groups
+    rows
 }
 
-/// Eight groups of six readings on curve 1, in a fit that begins near the values they were made with.
-fn eight_groups(effects: &[u64]) -> Case {
-    let mut problem = Problem {
-        code: 1,
-        group_count: 8,
-        effects: effects.to_vec(),
-        starts: vec![190.0, 4.5, 1.2],
-        lower: vec![f64::NEG_INFINITY; 3],
-        upper: vec![f64::INFINITY; 3],
-        group_lower: vec![f64::NEG_INFINITY; 3],
-        group_upper: vec![f64::INFINITY; 3],
-        ..Problem::default()
+const SMALL: Shape = Shape {
+    code: 1,
+    groups: 8,
+    readings_per_group: 12,
+    k: 1,
+    max_rounds: 100,
+};
+const LARGE: Shape = Shape {
+    groups: 32,
+    readings_per_group: 16,
+    ..SMALL
+};
+
+fn starts(shape: Shape) -> Row {
+    Row {
+        label: format!("start, {} readings, curve {}", shape.readings(), shape.code),
+        operation: "start",
+        cases: shape.starts(),
+    }
+}
+
+fn fits(shape: Shape) -> Row {
+    Row {
+        label: format!("fit, {shape}"),
+        operation: "fit",
+        cases: shape.fits(),
+    }
+}
+
+fn criteria(shape: Shape, order: u64) -> Row {
+    Row {
+        label: format!("criterion, order {order}, {shape}"),
+        operation: "criterion",
+        cases: shape.criteria(order),
+    }
+}
+
+fn searches(shape: Shape) -> Row {
+    Row {
+        label: format!("search, {shape}"),
+        operation: "search",
+        cases: shape.searches(),
+    }
+}
+
+/// The rows of the main table after those of the standard input.
+pub fn shaped() -> Vec<Row> {
+    let curves = |shape: Shape| (1..=4).map(move |code| Shape { code, ..shape });
+    let effects = |shape: Shape| (1..=2).map(move |k| Shape { k, ..shape });
+    let both = || [SMALL, LARGE].into_iter();
+    let mut rows: Vec<Row> = both().flat_map(curves).map(starts).collect();
+    rows.extend(both().flat_map(effects).flat_map(curves).map(fits));
+    for shape in both().flat_map(effects) {
+        rows.extend([1, 7].map(|order| criteria(shape, order)));
+    }
+    rows.extend(curves(SMALL).chain([LARGE]).map(searches));
+    rows
+}
+
+/// Few rounds, each won at once, so that a fit's cost depends on its size alone.
+const SHORT: Shape = Shape { max_rounds: 4, ..SMALL };
+
+/// Fits with more readings in 8 groups.
+pub fn by_readings() -> Vec<Row> {
+    let shape = |readings| Shape {
+        readings_per_group: readings / SHORT.groups,
+        ..SHORT
     };
-    for group in 0..8u64 {
-        for dose in [0.5, 2.0, 4.0, 5.5, 7.0, 9.5] {
-            let asym = 200.0 + 4.0 * (group as f64 - 3.5);
-            problem.doses.push(dose);
-            problem.grams.push(asym / (1.0 + fdlibm::exp(5.0 - dose)));
-            problem.groups.push(group);
-        }
-    }
-    Case::Fit {
-        n_values: 3,
-        n_effects_out: 8 * effects.len(),
-        problem,
-        theta: if effects.len() == 1 {
-            vec![1.0]
-        } else {
-            vec![1.0, 0.1, 0.8]
-        },
-        max_rounds: 1000,
-    }
+    [64, 128, 256, 512].map(shape).map(fits).into()
 }
 
-/// Copies of one case, so that what happens once for a pass does not show.
-const COPIES: usize = 100;
-
-fn copies(label: &str, operation: &'static str, case: Case) -> Group {
-    Group {
-        label: label.to_string(),
-        operation,
-        cases: vec![case; COPIES],
-    }
-}
-
-/// One damped direction. It is given by the fit whose first it is.
-pub fn directions() -> Vec<Group> {
-    vec![
-        copies("direction, 8 groups, p 3, k 1", "direction", eight_groups(&[0])),
-        copies("direction, 8 groups, p 3, k 2", "direction", eight_groups(&[0, 1])),
-    ]
-}
-
-/// One case for each line of the table.
-pub fn single() -> Vec<Group> {
-    let curve = |label: &str, code: u64, values: &[f64]| {
-        let case = Case::Curve {
-            code,
-            values: values.to_vec(),
-            dose: 3.0,
-        };
-        copies(label, "curve", case)
+/// Fits of 256 readings in more groups.
+pub fn by_groups() -> Vec<Row> {
+    let shape = |groups| Shape {
+        groups,
+        readings_per_group: 256 / groups,
+        ..SHORT
     };
-    let mut groups = vec![
-        copies("exp of 1.5", "exp", Case::Exp(1.5)),
-        copies("exp of -20", "exp", Case::Exp(-20.0)),
-        copies("ln of 2.5", "ln", Case::Ln(2.5)),
-        copies("sqrt of 2", "sqrt", Case::Sqrt(2.0)),
-        copies("gh_order of 7", "gh_order", Case::GhOrder(7)),
-        curve("curve 1, logistic", 1, &[200.0, 5.0, 1.25]),
-        curve("curve 2, asymptotic", 2, &[90.0, 20.0, -0.5]),
-        curve("curve 3, Michaelis-Menten", 3, &[8.0, 1.5]),
-        curve("curve 4, four values", 4, &[2.0, 80.0, 5.0, 1.25]),
-    ];
-    groups.extend(directions());
-    groups
+    [4, 8, 16, 32].map(shape).map(fits).into()
+}
+
+/// Criteria with more points: as many as the order, or its square where there are two effects.
+pub fn by_order() -> Vec<Row> {
+    let orders = |k| [1, 3, 5, 7, 9, 11].map(|order| criteria(Shape { k, ..SMALL }, order));
+    orders(1).into_iter().chain(orders(2)).collect()
+}
+
+/// The cases of the rows of this label.
+pub fn print(label: &str) {
+    let rows = [shaped(), by_readings(), by_groups(), by_order()].into_iter().flatten();
+    match rows.into_iter().find(|row| row.label == label) {
+        Some(row) => row.cases.iter().for_each(|case| println!("{}", line(case))),
+        None => fail(&format!("no row '{label}'")),
+    }
 }

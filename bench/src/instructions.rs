@@ -1,9 +1,9 @@
 //! Machine instructions per call, counted by callgrind: the program runs itself as `count` under it, once for each
 //! side, and takes off what the loop without a call executes.
 
-use crate::cases::{line, Group};
-use crate::sides::{pass, Pass, SIDES};
-use crate::{column, fail};
+use crate::cases::{line, Row};
+use crate::fail;
+use crate::sides::{pass, Pass};
 use std::io::Write;
 use std::process::{Command, Stdio};
 use text::Case;
@@ -26,22 +26,29 @@ pub fn count(side: &str, operation: &str, cases: &[Case]) {
     bench_counted(std::hint::black_box(&mut pass));
 }
 
+/// Whether valgrind is there.
+pub fn available() -> bool {
+    let mut command = Command::new("valgrind");
+    let said = command.arg("--version").stdout(Stdio::null()).status();
+    said.is_ok_and(|status| status.success())
+}
+
 /// The instructions of one pass over the cases.
-fn collected(side: &str, group: &Group) -> Option<u64> {
-    let _ = pass(side, group.operation, &group.cases)?;
+fn collected(side: &str, row: &Row) -> Option<f64> {
+    let _ = pass(side, row.operation, &row.cases)?;
     let itself = std::env::current_exe().expect("the program has a path");
     let mut child = Command::new("valgrind")
         .args(["--tool=callgrind", "--toggle-collect=bench_counted"])
         .arg("--callgrind-out-file=/dev/null")
         .arg(itself)
-        .args(["count", side, group.operation])
+        .args(["count", side, row.operation])
         .stdin(Stdio::piped())
         .stdout(Stdio::null())
         .stderr(Stdio::piped())
         .spawn()
         .unwrap_or_else(|fault| fail(&format!("valgrind: {fault}")));
     let mut input = child.stdin.take().expect("it is piped");
-    for case in &group.cases {
+    for case in &row.cases {
         writeln!(input, "{}", line(case)).unwrap_or_else(|fault| fail(&format!("valgrind: {fault}")));
     }
     drop(input);
@@ -52,29 +59,13 @@ fn collected(side: &str, group: &Group) -> Option<u64> {
         .find_map(|line| line.split_once("Collected :")?.1.trim().parse().ok());
     match count {
         Some(count) if output.status.success() => Some(count),
-        _ => fail(&format!("no count of {} on the side {side}:\n{said}", group.label)),
+        _ => fail(&format!("no count of {} on the side {side}:\n{said}", row.label)),
     }
 }
 
-pub fn print(groups: &[Group]) {
-    println!(
-        "{:<32}{:>7}{:>12}{:>12}{:>12}{:>14}",
-        "instructions per call", "cases", "Rust", "archive", "unreplaced", "Rust/archive"
-    );
-    for group in groups {
-        let cases = group.cases.len() as f64;
-        let alone = collected("empty", group).unwrap_or(0);
-        let [rust, archive, unreplaced] =
-            SIDES.map(|side| Some((collected(side, group)? as f64 - alone as f64) / cases));
-        let ratio = rust.zip(archive).map(|(rust, archive)| rust / archive);
-        println!(
-            "{:<32}{:>7}{:>12}{:>12}{:>12}{:>14}",
-            group.label,
-            group.cases.len(),
-            column(rust, 1),
-            column(archive, 1),
-            column(unreplaced, 1),
-            column(ratio, 2)
-        );
-    }
+/// Per call, of each of these sides; none where it does not have the operation.
+pub fn per_call(names: &[&str], row: &Row) -> Vec<Option<f64>> {
+    let alone = collected("empty", row).unwrap_or(0.0);
+    let one = |name: &&str| Some((collected(name, row)? - alone) / row.cases.len() as f64);
+    names.iter().map(one).collect()
 }

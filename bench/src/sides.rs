@@ -2,12 +2,13 @@
 //! and nothing else. Arguments and results pass through `black_box`, so that no call can be dropped or moved out.
 
 use std::hint::black_box;
-use text::Case;
+use text::{Answer, Case};
 
 /// Answers every case once.
 pub type Pass = Box<dyn FnMut()>;
 
-pub const SIDES: [&str; 3] = ["rust", "archive", "unreplaced"];
+/// The last two, of exp and ln: fdlibm's algorithms in C, and the loop without a call.
+pub const SIDES: [&str; 5] = ["rust", "archive", "unreplaced", "c", "empty"];
 
 /// None where the side does not have the operation.
 pub fn pass(side: &str, operation: &str, cases: &[Case]) -> Option<Pass> {
@@ -15,6 +16,7 @@ pub fn pass(side: &str, operation: &str, cases: &[Case]) -> Option<Pass> {
         "rust" => rust(operation, cases),
         "archive" => archive(operation, cases),
         "unreplaced" => unreplaced_rust(operation, cases),
+        "c" => c(operation, cases),
         "empty" => Some(empty(operation, cases)),
         _ => None,
     }
@@ -57,7 +59,7 @@ fn empty(operation: &str, cases: &[Case]) -> Pass {
 macro_rules! published {
     ($variant:ident, $operation:ident, $cases:ident) => {{
         use $variant::nlmm::fit::access::Ready;
-        use $variant::nlmm::ready::{gh_order, Curve, Direction, Start};
+        use $variant::nlmm::ready::{gh_order, Curve, Start};
         match $operation {
             "gh_order" => Some(each(wholes($cases), |asked| gh_order(*asked))),
             "curve" => {
@@ -73,15 +75,6 @@ macro_rules! published {
                     other => unreachable!("{other:?}"),
                 });
                 Some(each(ready.collect(), |start| start.call()))
-            }
-            "direction" => {
-                let ready = $cases.iter().map(|case| match case {
-                    Case::Fit { problem, theta, .. } => Direction::new(problem, theta, DAMPING),
-                    other => unreachable!("{other:?}"),
-                });
-                Some(each(ready.collect(), |direction| {
-                    direction.call().expect("these blocks have one")
-                }))
             }
             "fit" => {
                 let ready = $cases.iter().map(|case| match case {
@@ -133,9 +126,6 @@ macro_rules! published {
     }};
 }
 
-/// The damping that inner_gauss_newton_status begins with, but for curve 2 with one effect.
-const DAMPING: f64 = 1e-4;
-
 /// The published Rust with document 01's list replaced. Its sqrt is std's, an instruction.
 fn rust(operation: &str, cases: &[Case]) -> Option<Pass> {
     Some(match operation {
@@ -159,7 +149,21 @@ fn unreplaced_rust(operation: &str, cases: &[Case]) -> Option<Pass> {
     })
 }
 
-/// libkemroul.a. A direction joins here when the archive exports one (README.md).
+extern "C" {
+    fn fdlibm_exp(x: f64) -> f64;
+    fn fdlibm_log(x: f64) -> f64;
+}
+
+/// c/fdlibm.c.
+fn c(operation: &str, cases: &[Case]) -> Option<Pass> {
+    Some(match operation {
+        "exp" => each(floats(cases), |x| unsafe { fdlibm_exp(*x) }),
+        "ln" => each(floats(cases), |x| unsafe { fdlibm_log(*x) }),
+        _ => return None,
+    })
+}
+
+/// libkemroul.a.
 #[allow(unreachable_code)]
 fn archive(operation: &str, cases: &[Case]) -> Option<Pass> {
     #[allow(unused_imports)]
@@ -239,16 +243,28 @@ fn archive(operation: &str, cases: &[Case]) -> Option<Pass> {
     })
 }
 
-/// The first case that the archive and the Rust answer differently, of an operation that both have.
+fn answer_line(answer: Answer) -> String {
+    let mut line = text::Line::default();
+    line.answer(&answer);
+    line.0
+}
+
+/// The first case that the Rust and the archive answer differently, of an operation that both have, or the Rust and
+/// the C.
 pub fn difference(operation: &str, cases: &[Case]) -> Option<String> {
-    let _ = archive(operation, cases)?;
-    let line = |answer: text::Answer| {
-        let mut line = text::Line::default();
-        line.answer(&answer);
-        line.0
-    };
+    let has_archive = archive(operation, cases).is_some();
     cases.iter().find_map(|case| {
-        let (rust, archive) = (line(replaced::operations::answer(case)), line(driver::answer(case)));
-        (rust != archive).then(|| format!("{case:?}: the Rust {rust}, the archive {archive}"))
+        let rust = answer_line(replaced::operations::answer(case));
+        let mut others = Vec::new();
+        if has_archive {
+            others.push(("archive", answer_line(driver::answer(case))));
+        }
+        match case {
+            Case::Exp(x) => others.push(("C", answer_line(Answer::Float(unsafe { fdlibm_exp(*x) })))),
+            Case::Ln(x) => others.push(("C", answer_line(Answer::Float(unsafe { fdlibm_log(*x) })))),
+            _ => {}
+        }
+        let (name, other) = others.iter().find(|(_, other)| *other != rust)?;
+        Some(format!("{case:?}: the Rust {rust}, the {name} {other}"))
     })
 }

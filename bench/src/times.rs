@@ -1,115 +1,116 @@
-//! Nanoseconds of processor time per call. Each side runs in bursts of a fraction of a millisecond where the cases
-//! allow it, the sides in turn, so that what else the machine does meets them alike; the shortest burst of each counts.
+//! Nanoseconds of processor time per call. The sides run in turn, in bursts of a fraction of a millisecond where the
+//! cases allow it, so that what else the machine does meets them alike.
 
-use crate::cases::Group;
+use crate::cases::Row;
 use crate::clock::time;
-use crate::sides::{difference, pass, Pass, SIDES};
-use crate::{column, fail};
+use crate::sides::{pass, Pass};
 use std::time::{Duration, Instant};
+use text::Case;
 
 const BURST: Duration = Duration::from_micros(300);
-const LEAST_BURSTS: usize = 5;
+const LEAST_ROUNDS: usize = 9;
 const MOST_PASSES: u32 = 1 << 20;
 
 /// One side's calls for a part of the cases.
-struct Side {
+struct Burst {
     pass: Pass,
     passes: u32,
-    shortest: Duration,
 }
 
-impl Side {
-    /// With as many passes to a burst as fill it.
+impl Burst {
+    /// With as many passes as fill a burst.
     fn new(pass: Pass) -> Self {
-        let mut side = Self {
-            pass,
-            passes: 1,
-            shortest: Duration::MAX,
-        };
-        while side.burst() < BURST / 2 && side.passes < MOST_PASSES {
-            side.passes *= 2;
+        let mut burst = Self { pass, passes: 1 };
+        while burst.run() * f64::from(burst.passes) < BURST.as_nanos() as f64 / 2.0 && burst.passes < MOST_PASSES {
+            burst.passes *= 2;
         }
-        side.shortest = Duration::MAX;
-        side
+        burst
     }
 
-    fn burst(&mut self) -> Duration {
+    /// Nanoseconds for the part's cases together.
+    fn run(&mut self) -> f64 {
         let taken = time(|| {
             for _ in 0..self.passes {
                 (self.pass)();
             }
         });
-        self.shortest = self.shortest.min(taken);
-        taken
+        taken.as_nanos() as f64 / f64::from(self.passes)
     }
+}
 
-    /// Of the part's cases together.
-    fn nanoseconds(&self) -> f64 {
-        self.shortest.as_nanos() as f64 / f64::from(self.passes)
+/// What a side took. In a round each part of the cases has one burst of each side.
+pub struct Taken {
+    /// For each round, nanoseconds per call, the mean of the cases.
+    rounds: Vec<f64>,
+    /// The same, from the shortest burst of each part.
+    pub shortest: f64,
+}
+
+/// The spread of a ratio over the rounds, in which both were measured one after the other.
+pub struct Spread {
+    pub lowest: f64,
+    pub quartile: f64,
+    pub median: f64,
+    pub upper_quartile: f64,
+}
+
+impl Spread {
+    pub fn of(over: &Taken, under: &Taken) -> Self {
+        let mut ratios: Vec<f64> = over.rounds.iter().zip(&under.rounds).map(|(o, u)| o / u).collect();
+        ratios.sort_by(f64::total_cmp);
+        let last = ratios.len() - 1;
+        Self {
+            lowest: ratios[0],
+            quartile: ratios[last / 4],
+            median: ratios[last / 2],
+            upper_quartile: ratios[last - last / 4],
+        }
     }
 }
 
 /// How many cases one burst takes; one of them may take longer.
-fn part_length(group: &Group) -> usize {
-    let pass = pass("rust", group.operation, &group.cases).expect("the Rust has every operation");
+fn part_length(row: &Row) -> usize {
+    let pass = pass("rust", row.operation, &row.cases).expect("the Rust has every operation");
     let fraction = BURST.as_secs_f64() / time(pass).as_secs_f64();
-    ((group.cases.len() as f64 * fraction) as usize).clamp(1, group.cases.len())
+    ((row.cases.len() as f64 * fraction) as usize).clamp(1, row.cases.len())
 }
 
-/// What a call of each of `names` takes, the mean of the cases, and the number of bursts.
-fn measure(names: &[&str], group: &Group, seconds: f64) -> (Vec<Option<f64>>, usize) {
-    let sides = |part| {
-        let side = |name: &&str| pass(name, group.operation, part).map(Side::new);
-        names.iter().map(side).collect()
-    };
-    let mut parts: Vec<Vec<Option<Side>>> = group.cases.chunks(part_length(group)).map(sides).collect();
-    let begun = Instant::now();
-    let mut bursts = 0;
-    while bursts < LEAST_BURSTS || begun.elapsed().as_secs_f64() < seconds {
-        for part in &mut parts {
-            // Each side comes first in turn.
-            for i in 0..part.len() {
-                let at = (bursts + i) % part.len();
-                if let Some(side) = &mut part[at] {
-                    side.burst();
-                }
+/// One burst of each part on each side, each side first in turn: nanoseconds by side and part.
+fn round_of_bursts(sides: &mut [Option<Vec<Burst>>], parts: usize, round: usize) -> Vec<Vec<f64>> {
+    let mut taken = vec![Vec::new(); sides.len()];
+    for part in 0..parts {
+        for i in 0..sides.len() {
+            let at = (round + i) % sides.len();
+            if let Some(side) = &mut sides[at] {
+                taken[at].push(side[part].run());
             }
         }
-        bursts += 1;
     }
-    let mean = |at: usize| {
-        let taken: Option<f64> = parts.iter().map(|part| part[at].as_ref().map(Side::nanoseconds)).sum();
-        taken.map(|taken| taken / group.cases.len() as f64)
-    };
-    ((0..names.len()).map(mean).collect(), bursts)
+    taken
 }
 
-pub fn print(groups: &[Group], seconds: f64) {
-    println!(
-        "{:<32}{:>7}{:>8}{:>12}{:>12}{:>12}{:>12}{:>14}",
-        "ns per call", "cases", "bursts", "loop alone", "Rust", "archive", "unreplaced", "Rust/archive"
-    );
-    for group in groups {
-        if let Some(difference) = difference(group.operation, &group.cases) {
-            fail(&difference);
-        }
-        let mut names = vec!["empty"];
-        names.extend(SIDES);
-        let (taken, bursts) = measure(&names, group, seconds);
-        let [alone, rust, archive, unreplaced] = taken[..] else {
-            unreachable!("four sides");
-        };
-        let ratio = rust.zip(archive).map(|(rust, archive)| rust / archive);
-        println!(
-            "{:<32}{:>7}{:>8}{:>12}{:>12}{:>12}{:>12}{:>14}",
-            group.label,
-            group.cases.len(),
-            bursts,
-            column(alone, 1),
-            column(rust, 1),
-            column(archive, 1),
-            column(unreplaced, 1),
-            column(ratio, 2)
-        );
+/// What each of these sides takes; none where it does not have the operation.
+pub fn measure(names: &[&str], row: &Row, seconds: f64) -> Vec<Option<Taken>> {
+    let parts: Vec<&[Case]> = row.cases.chunks(part_length(row)).collect();
+    let bursts = |name: &&str| -> Option<Vec<Burst>> {
+        let burst = |part: &&[Case]| pass(name, row.operation, part).map(Burst::new);
+        parts.iter().map(burst).collect()
+    };
+    let mut sides: Vec<Option<Vec<Burst>>> = names.iter().map(bursts).collect();
+    let mut rounds: Vec<Vec<Vec<f64>>> = Vec::new();
+    let begun = Instant::now();
+    while rounds.len() < LEAST_ROUNDS || begun.elapsed().as_secs_f64() < seconds {
+        rounds.push(round_of_bursts(&mut sides, parts.len(), rounds.len()));
     }
+    let cases = row.cases.len() as f64;
+    let taken = |(at, side): (usize, &Option<Vec<Burst>>)| {
+        side.as_ref()?;
+        let shortest = |part: usize| rounds.iter().map(|round| round[at][part]).fold(f64::INFINITY, f64::min);
+        let mean = |round: &Vec<Vec<f64>>| round[at].iter().sum::<f64>() / cases;
+        Some(Taken {
+            shortest: (0..parts.len()).map(shortest).sum::<f64>() / cases,
+            rounds: rounds.iter().map(mean).collect(),
+        })
+    };
+    sides.iter().enumerate().map(taken).collect()
 }
