@@ -20,8 +20,9 @@
 
 # The folder that holds the published Rust, as src/nlmm/fit.rs and so on.
 SOURCE ?= ../shared/docs/src
-# The operations that the archive has. Adding one is adding its word: exp ln sqrt gh_order curve start fit criterion search.
-OPS ?= exp ln sqrt gh_order curve start fit criterion search
+# The operations that are compared, all that the archive has; one may have a count, as in fit=5000.
+ALL = exp ln sqrt gh_order curve start fit criterion search
+OPS ?= $(ALL)
 SEED ?= 20261115
 # The cases of exp, ln, sqrt and curve each; the dearer operations get a share (oracle/gen/src/main.rs).
 LINES ?= 400000
@@ -31,7 +32,6 @@ CARGO ?= cargo build -j2 --release --offline --quiet
 ARCHIVE_DIR ?= target/staticlib
 BIN = oracle/target/release
 
-ALL = exp ln sqrt gh_order curve start fit criterion search
 DISTANCE_OPS ?= $(ALL)
 DISTANCE_LINES ?= 100000
 OP ?= exp
@@ -64,11 +64,8 @@ oracle-test: copy
 archive:
 	$(RT) staticlib kemroul
 
-# OPS may give a count, as in fit=5000; the features are the names alone.
-FEATURES = $(foreach op,$(OPS),$(firstword $(subst =, ,$(op))))
-
 driver: oracle
-	@cd oracle && KEMROUL_ARCHIVE_DIR=$(abspath $(ARCHIVE_DIR)) $(CARGO) -p driver --features "$(FEATURES)"
+	@cd oracle && KEMROUL_ARCHIVE_DIR=$(abspath $(ARCHIVE_DIR)) $(CARGO) -p driver
 
 differential: archive
 	@$(MAKE) --no-print-directory compare
@@ -97,8 +94,7 @@ sample: oracle
 	@echo "$$(wc -l < $(OUT)) lines of $(OP), seed $(SEED), in $(OUT)"
 
 bench-program: oracle
-	@cd oracle && KEMROUL_ARCHIVE_DIR=$(abspath $(ARCHIVE_DIR)) $(CARGO) -p bench \
-	  --features "$(FEATURES) $(if $(UNREPLACED),unreplaced)"
+	@cd oracle && KEMROUL_ARCHIVE_DIR=$(abspath $(ARCHIVE_DIR)) $(CARGO) -p bench $(if $(UNREPLACED),--features unreplaced)
 
 machine:
 	@echo "$$(date -u +%F), $$(lscpu | sed -n 's/^Model name: *//p'), $$(nproc) cores, load $$(cut -d' ' -f1 /proc/loadavg), $$(rustc --version), $$($${CC:-gcc} --version | head -1), seed $(SEED)"

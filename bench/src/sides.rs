@@ -164,20 +164,13 @@ fn c(operation: &str, cases: &[Case]) -> Option<Pass> {
 }
 
 /// libkemroul.a.
-#[allow(unreachable_code)]
 fn archive(operation: &str, cases: &[Case]) -> Option<Pass> {
-    #[allow(unused_imports)]
     use driver::boundary;
     Some(match operation {
-        #[cfg(feature = "exp")]
         "exp" => each(floats(cases), |x| unsafe { boundary::kemroul_exp(*x) }),
-        #[cfg(feature = "ln")]
         "ln" => each(floats(cases), |x| unsafe { boundary::kemroul_ln(*x) }),
-        #[cfg(feature = "sqrt")]
         "sqrt" => each(floats(cases), |x| unsafe { boundary::kemroul_sqrt(*x) }),
-        #[cfg(feature = "gh_order")]
         "gh_order" => each(wholes(cases), |asked| unsafe { boundary::kemroul_gh_order(*asked) }),
-        #[cfg(feature = "curve")]
         "curve" => {
             let ready = cases.iter().map(|case| match case {
                 Case::Curve { code, values, dose } => (*code, values.clone(), *dose),
@@ -201,7 +194,6 @@ fn archive(operation: &str, cases: &[Case]) -> Option<Pass> {
                 (number, [mu, d0, d1, d2, d3])
             })
         }
-        #[cfg(feature = "start")]
         "start" => {
             let ready = cases.iter().map(|case| match case {
                 Case::Start {
@@ -230,16 +222,8 @@ fn archive(operation: &str, cases: &[Case]) -> Option<Pass> {
             })
         }
         // The driver's call makes its lent lists anew: a few allocations beside a whole fit.
-        #[cfg(feature = "fit")]
-        "fit" => each(cases.to_vec(), driver::answer),
-        #[cfg(feature = "criterion")]
-        "criterion" => each(cases.to_vec(), driver::answer),
-        #[cfg(feature = "search")]
-        "search" => each(cases.to_vec(), driver::answer),
-        _ => {
-            let _ = cases;
-            return None;
-        }
+        "fit" | "criterion" | "search" => each(cases.to_vec(), driver::answer),
+        _ => return None,
     })
 }
 

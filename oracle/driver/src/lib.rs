@@ -1,9 +1,8 @@
-//! Answers cases by libkemroul.a. Each operation is behind the feature of its name, so that programs link with an
-//! archive that has only some.
+//! Answers cases by libkemroul.a, through the declarations of bindings/rust.
 
+pub use kemroul::sys as boundary;
 use text::{Answer, Case, KEPT, KEPT_WHOLE};
 
-#[allow(unused_macros)]
 macro_rules! problem_pointers {
     ($function:ident, $p:expr, $($rest:expr),* $(,)?) => {
         boundary::$function(
@@ -23,94 +22,9 @@ macro_rules! problem_pointers {
     };
 }
 
-/// include/kemroul.h.
-#[allow(unused_macros)]
-pub mod boundary {
-    macro_rules! with_problem {
-        ($(#[$feature:meta])* fn $function:ident ($($name:ident: $type:ty),* $(,)?)) => {
-            extern "C" {
-                $(#[$feature])*
-                pub fn $function(
-                    code: u64,
-                    doses: *const f64, n_doses: usize,
-                    grams: *const f64, n_grams: usize,
-                    groups: *const u64, n_groups: usize,
-                    group_count: u64,
-                    effects: *const u64, n_effects: usize,
-                    starts: *const f64, n_starts: usize,
-                    lower: *const f64, n_lower: usize,
-                    upper: *const f64, n_upper: usize,
-                    group_lower: *const f64, n_group_lower: usize,
-                    group_upper: *const f64, n_group_upper: usize,
-                    $($name: $type),*
-                ) -> u64;
-            }
-        };
-    }
-
-    extern "C" {
-        #[cfg(feature = "exp")]
-        pub fn kemroul_exp(x: f64) -> f64;
-        #[cfg(feature = "ln")]
-        pub fn kemroul_ln(x: f64) -> f64;
-        #[cfg(feature = "sqrt")]
-        pub fn kemroul_sqrt(x: f64) -> f64;
-        #[cfg(feature = "gh_order")]
-        pub fn kemroul_gh_order(asked: u64) -> u64;
-        #[cfg(feature = "curve")]
-        pub fn kemroul_curve(
-            code: u64,
-            values: *const f64,
-            n_values: usize,
-            dose: f64,
-            mu: *mut f64,
-            d0: *mut f64,
-            d1: *mut f64,
-            d2: *mut f64,
-            d3: *mut f64,
-        ) -> u64;
-        #[cfg(feature = "start")]
-        pub fn kemroul_start(
-            code: u64,
-            doses: *const f64,
-            n_doses: usize,
-            grams: *const f64,
-            n_grams: usize,
-            values: *mut f64,
-            n_values: usize,
-        ) -> u64;
-    }
-
-    with_problem! {
-        #[cfg(feature = "fit")]
-        fn kemroul_fit(
-            theta: *const f64, n_theta: usize, max_rounds: u64,
-            values: *mut f64, n_values: usize, effects_out: *mut f64, n_effects_out: usize,
-            rss: *mut f64, converged: *mut u64, rounds: *mut u64, trials: *mut u64,
-        )
-    }
-    with_problem! {
-        #[cfg(feature = "criterion")]
-        fn kemroul_criterion(
-            theta: *const f64, n_theta: usize, max_rounds: u64, reml: u64, n_agq: u64,
-            values: *mut f64, n_values: usize, effects_out: *mut f64, n_effects_out: usize,
-            criterion: *mut f64, sigma2: *mut f64,
-        )
-    }
-    with_problem! {
-        #[cfg(feature = "search")]
-        fn kemroul_search(
-            max_rounds: u64, reml: u64, n_agq: u64, max_narrowings: u64,
-            theta: *mut f64, criterion: *mut f64, narrowings: *mut u64, converged: *mut u64, fits: *mut u64,
-        )
-    }
-}
-
 /// A lent list, filled beforehand, with a guard on each side that no call may touch.
-#[allow(dead_code)]
 struct Lent(Vec<f64>);
 
-#[allow(dead_code)]
 impl Lent {
     fn new(length: usize) -> Self {
         Self(vec![KEPT; length + 2])
@@ -133,15 +47,10 @@ impl Lent {
 
 pub fn answer(case: &Case) -> Answer {
     match case {
-        #[cfg(feature = "exp")]
         Case::Exp(x) => Answer::Float(unsafe { boundary::kemroul_exp(*x) }),
-        #[cfg(feature = "ln")]
         Case::Ln(x) => Answer::Float(unsafe { boundary::kemroul_ln(*x) }),
-        #[cfg(feature = "sqrt")]
         Case::Sqrt(x) => Answer::Float(unsafe { boundary::kemroul_sqrt(*x) }),
-        #[cfg(feature = "gh_order")]
         Case::GhOrder(asked) => Answer::Whole(unsafe { boundary::kemroul_gh_order(*asked) }),
-        #[cfg(feature = "curve")]
         Case::Curve { code, values, dose } => {
             let [mut mu, mut d0, mut d1, mut d2, mut d3] = [KEPT; 5];
             let number = unsafe {
@@ -162,7 +71,6 @@ pub fn answer(case: &Case) -> Answer {
                 mean: [mu, d0, d1, d2, d3],
             }
         }
-        #[cfg(feature = "start")]
         Case::Start {
             code,
             doses,
@@ -186,7 +94,6 @@ pub fn answer(case: &Case) -> Answer {
                 values: values.taken(),
             }
         }
-        #[cfg(feature = "fit")]
         Case::Fit {
             problem: p,
             theta,
@@ -225,7 +132,6 @@ pub fn answer(case: &Case) -> Answer {
                 trials,
             }
         }
-        #[cfg(feature = "criterion")]
         Case::Criterion {
             problem: p,
             theta,
@@ -263,7 +169,6 @@ pub fn answer(case: &Case) -> Answer {
                 sigma2,
             }
         }
-        #[cfg(feature = "search")]
         Case::Search {
             problem: p,
             max_rounds,
@@ -297,10 +202,9 @@ pub fn answer(case: &Case) -> Answer {
                 fits,
             }
         }
-        #[allow(unreachable_patterns)]
-        _ => {
-            let _ = (KEPT, KEPT_WHOLE);
-            eprintln!("driver: built without the operation of {case:?}");
+        // The linear algebra below the header's functions: only the oracle answers these.
+        Case::Solve { .. } | Case::Inverse(_) | Case::Cholesky(_) | Case::Direction { .. } => {
+            eprintln!("driver: the archive has no operation for {case:?}");
             std::process::exit(2);
         }
     }
