@@ -38,19 +38,7 @@ impl Call {
             vec![1.0]
         };
         Call {
-            problem: Problem {
-                code,
-                doses: readings.iter().map(|r| r.0).collect(),
-                grams: readings.iter().map(|r| r.1).collect(),
-                groups: vec![0; readings.len()],
-                group_count: 1,
-                effects: effects.to_vec(),
-                starts: starts.to_vec(),
-                lower: vec![-INF; p],
-                upper: vec![INF; p],
-                group_lower: vec![-INF; p],
-                group_upper: vec![INF; p],
-            },
+            problem: Problem::one_group(code, readings, effects, starts),
             theta,
             max_rounds: 1000,
             reml: 0,

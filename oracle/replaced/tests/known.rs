@@ -6,24 +6,6 @@ use text::{Answer, Case, Line, Problem};
 
 const INF: f64 = f64::INFINITY;
 
-/// One group, no finite bounds.
-fn problem(code: u64, readings: &[(f64, f64)], effects: &[u64], starts: &[f64]) -> Problem {
-    let p = starts.len();
-    Problem {
-        code,
-        doses: readings.iter().map(|r| r.0).collect(),
-        grams: readings.iter().map(|r| r.1).collect(),
-        groups: vec![0; readings.len()],
-        group_count: 1,
-        effects: effects.to_vec(),
-        starts: starts.to_vec(),
-        lower: vec![-INF; p],
-        upper: vec![INF; p],
-        group_lower: vec![-INF; p],
-        group_upper: vec![INF; p],
-    }
-}
-
 struct Fitted {
     values: Vec<f64>,
     effects: Vec<f64>,
@@ -135,7 +117,11 @@ fn rows_of_document_01() {
 
 #[test]
 fn an_accepted_value_may_be_infinite() {
-    let f = fit(problem(1, &[(1.5e308, 0.0)], &[2], &[1e308, 1.5e308, 5e307]), &[1.0], 3);
+    let f = fit(
+        Problem::one_group(1, &[(1.5e308, 0.0)], &[2], &[1e308, 1.5e308, 5e307]),
+        &[1.0],
+        3,
+    );
     assert_eq!(f.values, [5.00024998749886e307, INF, 5e307]);
     assert_eq!((f.rss, f.converged, f.rounds), (0.0, true, 2));
 }
@@ -143,7 +129,7 @@ fn an_accepted_value_may_be_infinite() {
 #[test]
 fn a_small_proposal_after_lost_attempts_ends_a_fit() {
     let f = fit(
-        problem(2, &[(4.0, 7.0), (2.0, -3.0), (2.0, 0.0)], &[2], &[2.0, 8.0, 1.0]),
+        Problem::one_group(2, &[(4.0, 7.0), (2.0, -3.0), (2.0, 0.0)], &[2], &[2.0, 8.0, 1.0]),
         &[1.0],
         1000,
     );
@@ -152,7 +138,11 @@ fn a_small_proposal_after_lost_attempts_ends_a_fit() {
 
 #[test]
 fn a_zero_pivot_after_lost_attempts_ends_a_fit() {
-    let f = fit(problem(4, &[(-1.0, 0.0)], &[1], &[1e27, 1.0, 2.0, -1.0]), &[1.0], 1000);
+    let f = fit(
+        Problem::one_group(4, &[(-1.0, 0.0)], &[1], &[1e27, 1.0, 2.0, -1.0]),
+        &[1.0],
+        1000,
+    );
     assert_eq!(f.values, [1e27, 1.0, 2.0, -1.0]);
     assert_eq!((f.rounds, f.trials), (1, 140));
 }
@@ -160,21 +150,25 @@ fn a_zero_pivot_after_lost_attempts_ends_a_fit() {
 #[test]
 fn a_covariance_that_overflows_gives_no_direction() {
     let readings = [(1.0, 4.0), (2.0, 5.3), (3.0, 6.0)];
-    let f = fit(problem(3, &readings, &[0, 1], &[8.0, 1.0]), &[1e200, 0.0, 1e200], 1000);
+    let f = fit(
+        Problem::one_group(3, &readings, &[0, 1], &[8.0, 1.0]),
+        &[1e200, 0.0, 1e200],
+        1000,
+    );
     assert_eq!(f.values, [8.0, 1.0]);
     assert_eq!((f.rounds, f.trials), (1, 0));
 }
 
 #[test]
 fn the_floor_comes_before_the_projection() {
-    let mut p = problem(1, &[(1.0, 2.0), (2.0, 4.0), (3.0, 6.0)], &[0], &[8.0, 2.0, -1.0]);
+    let mut p = Problem::one_group(1, &[(1.0, 2.0), (2.0, 4.0), (3.0, 6.0)], &[0], &[8.0, 2.0, -1.0]);
     p.upper[2] = 1e-7;
     assert_eq!(fit(p, &[1.0], 1000).values[2], 1e-7);
 }
 
 #[test]
 fn the_adjustment_comes_before_the_projection() {
-    let mut p = problem(1, &[(1.0, 2.0)], &[0], &[8.0, 2.0, 0.0]);
+    let mut p = Problem::one_group(1, &[(1.0, 2.0)], &[0], &[8.0, 2.0, 0.0]);
     p.lower[2] = 1.0;
     p.upper[2] = 10.0;
     assert_eq!(fit(p, &[1.0], 0).values, [8.0, 2.0, 10.0]);
@@ -182,7 +176,7 @@ fn the_adjustment_comes_before_the_projection() {
 
 #[test]
 fn an_empty_group_is_penalised() {
-    let mut p = problem(3, &[(1.0, 4.0), (2.0, 5.3), (3.0, 6.0)], &[0], &[1.0, 1.0]);
+    let mut p = Problem::one_group(3, &[(1.0, 4.0), (2.0, 5.3), (3.0, 6.0)], &[0], &[1.0, 1.0]);
     p.group_count = 2;
     p.group_lower[0] = 3.0;
     p.group_upper[0] = 7.0;
@@ -191,22 +185,30 @@ fn an_empty_group_is_penalised() {
 
 #[test]
 fn every_rule_that_ends_a_fit() {
-    let f = fit(problem(3, &[(0.0, 1.0)], &[1], &[3.0, 5.0]), &[1.0], 1000);
+    let f = fit(Problem::one_group(3, &[(0.0, 1.0)], &[1], &[3.0, 5.0]), &[1.0], 1000);
     assert_eq!((f.converged, f.rounds, f.trials), (true, 1, 0));
-    let f = fit(problem(1, &[(0.0, -1.0)], &[2], &[5.0, 5.0, -1.0]), &[1.0], 1000);
+    let f = fit(
+        Problem::one_group(1, &[(0.0, -1.0)], &[2], &[5.0, 5.0, -1.0]),
+        &[1.0],
+        1000,
+    );
     assert_eq!((f.converged, f.rounds, f.trials), (true, 9, 44));
-    let f = fit(problem(1, &[(0.0, 2.0)], &[1], &[0.0, 3.0, 5.0]), &[1.0], 1);
+    let f = fit(Problem::one_group(1, &[(0.0, 2.0)], &[1], &[0.0, 3.0, 5.0]), &[1.0], 1);
     assert_eq!((f.converged, f.rounds, f.trials), (false, 1, 1));
-    let f = fit(problem(4, &[(0.0, 4.0)], &[2], &[-1.0, 9.0, -2.0, -3.0]), &[1.0], 1000);
+    let f = fit(
+        Problem::one_group(4, &[(0.0, 4.0)], &[2], &[-1.0, 9.0, -2.0, -3.0]),
+        &[1.0],
+        1000,
+    );
     assert_eq!((f.converged, f.rounds, f.trials), (false, 1, 240));
-    let f = fit(problem(3, &[(2.0, 3.0)], &[1], &[3.0, -2.0]), &[1.0], 1000);
+    let f = fit(Problem::one_group(3, &[(2.0, 3.0)], &[1], &[3.0, -2.0]), &[1.0], 1000);
     assert_eq!((f.converged, f.rounds, f.trials), (false, 1, 0));
 }
 
 #[test]
 fn the_dearest_round_has_240_trials() {
     for effects in [&[0][..], &[1], &[0, 1]] {
-        let p = problem(3, &[(1.0, 2e200), (1.0, -1e200)], effects, &[1.0, 1.0]);
+        let p = Problem::one_group(3, &[(1.0, 2e200), (1.0, -1e200)], effects, &[1.0, 1.0]);
         let theta: &[f64] = if effects.len() == 2 { &[1.0, 0.0, 1.0] } else { &[1.0] };
         let f = fit(p, theta, 1000);
         assert_eq!((f.rounds, f.trials, &f.values[..]), (1, 240, &[1.0, 1.0][..]));
@@ -215,7 +217,7 @@ fn the_dearest_round_has_240_trials() {
 
 #[test]
 fn a_factor_that_is_none_is_an_infinite_determinant() {
-    let p = || problem(3, &[(0.0, 1.0)], &[0], &[8.0, 0.0]);
+    let p = || Problem::one_group(3, &[(0.0, 1.0)], &[0], &[8.0, 0.0]);
     assert_eq!(criterion(p(), &[1.0], 1000, 0, 0), (INF, 1e-12));
     let (c, sigma2) = criterion(p(), &[1.0], 1000, 1, 0);
     assert!(c.is_nan() && sigma2 == 1e-12);
@@ -223,9 +225,9 @@ fn a_factor_that_is_none_is_an_infinite_determinant() {
 
 #[test]
 fn quadrature_that_is_none_adds_nothing() {
-    let p = problem(3, &[(2.0, 2.0)], &[0, 1], &[3.0, 1.0]);
+    let p = Problem::one_group(3, &[(2.0, 2.0)], &[0, 1], &[3.0, 1.0]);
     assert_eq!(criterion(p, &[1e7, 0.0, 1e6], 1, 0, 3).0, 6.642147470562527);
-    let mut p = problem(3, &[(1.0, 4.0), (2.0, 5.3), (3.0, 6.0), (0.0, 0.1)], &[0], &[8.0, 1.0]);
+    let mut p = Problem::one_group(3, &[(1.0, 4.0), (2.0, 5.3), (3.0, 6.0), (0.0, 0.1)], &[0], &[8.0, 1.0]);
     p.groups = vec![0, 0, 0, 1];
     p.group_count = 2;
     for order in [0, 3] {
@@ -238,7 +240,7 @@ fn quadrature_that_is_none_adds_nothing() {
 fn a_search_without_a_number_keeps_the_right_part() {
     for (allowed, theta, narrowings) in [(1000, 19.99996352825455, 26), (0, 10.1, 0)] {
         let case = Case::Search {
-            problem: problem(3, &[(0.0, 1.0)], &[0], &[8.0, 0.0]),
+            problem: Problem::one_group(3, &[(0.0, 1.0)], &[0], &[8.0, 0.0]),
             max_rounds: 1000,
             reml: 1,
             n_agq: 0,

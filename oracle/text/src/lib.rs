@@ -24,6 +24,27 @@ pub struct Problem {
     pub group_upper: Vec<f64>,
 }
 
+impl Problem {
+    /// Readings of one group, no finite bounds.
+    pub fn one_group(code: u64, readings: &[(f64, f64)], effects: &[u64], starts: &[f64]) -> Self {
+        let below = vec![f64::NEG_INFINITY; starts.len()];
+        let above = vec![f64::INFINITY; starts.len()];
+        Problem {
+            code,
+            doses: readings.iter().map(|r| r.0).collect(),
+            grams: readings.iter().map(|r| r.1).collect(),
+            groups: vec![0; readings.len()],
+            group_count: 1,
+            effects: effects.to_vec(),
+            starts: starts.to_vec(),
+            lower: below.clone(),
+            upper: above.clone(),
+            group_lower: below,
+            group_upper: above,
+        }
+    }
+}
+
 /// The normal blocks of a direction; matrices row after row, one after the other.
 #[derive(Clone, Debug, Default)]
 pub struct Blocks {
