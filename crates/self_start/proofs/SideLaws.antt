@@ -104,9 +104,9 @@ unfoldable firstOf : Pair → List Pair → Pair
 firstOf d [] = d
 firstOf d (p ∷ ps) = p
 
-unfoldable some : List Pair → Bool
-some [] = false
-some (p ∷ ps) = true
+unfoldable some : List Pair → ℕ
+some [] = 0
+some (p ∷ ps) = 1
 
 abbrev none : Pair
 none = (zero, zero)
@@ -116,12 +116,12 @@ abbrev describe : List Pair → List Pair → Sides
 describe ls hs =
     record { low = some ls; x0 = lastOf none ls .1; y0 = lastOf none ls .0; high = some hs; x1 = firstOf none hs .1; y1 = firstOf none hs .0; x2 = lastOf none hs .1; y2 = lastOf none hs .0 }
 
-some-insert : (p : Pair) (l : List Pair) → some (insert p l) ≡ true
+some-insert : (p : Pair) (l : List Pair) → some (insert p l) ≡ 1
 unfolding some
 some-insert p [] = ap some (insert-none p)
 some-insert p (q ∷ l) = by-test (lt (q .0) (p .0)) refl
   where
-    by-test : (t : Bool) → lt (q .0) (p .0) ≡ t → some (insert p (q ∷ l)) ≡ true
+    by-test : (t : Bool) → lt (q .0) (p .0) ≡ t → some (insert p (q ∷ l)) ≡ 1
     by-test true e = ap some (insert-past p q l e)
     by-test false e = ap some (insert-here p q l e)
 
@@ -156,31 +156,31 @@ last-stays d p q (r ∷ l) h = by-test (last-stays q p r l h) (lt (q .0) (p .0))
 
 -- ---- a pair put to the sides is a pair put into one of the parts
 
-low-is : (l h : List Pair) (r : Pair) → some l ≡ true → lastOf none l ≡ r
-    → describe l h ≡ record { low = true; x0 = r .1; y0 = r .0; high = some h; x1 = firstOf none h .1; y1 = firstOf none h .0; x2 = lastOf none h .1; y2 = lastOf none h .0 }
+low-is : (l h : List Pair) (r : Pair) → some l ≡ 1 → lastOf none l ≡ r
+    → describe l h ≡ record { low = 1; x0 = r .1; y0 = r .0; high = some h; x1 = firstOf none h .1; y1 = firstOf none h .0; x2 = lastOf none h .1; y2 = lastOf none h .0 }
 low-is l h r a b = rw (a, b)
 
-high-is : (l h : List Pair) (f r : Pair) → some h ≡ true → firstOf none h ≡ f → lastOf none h ≡ r
-    → describe l h ≡ record { low = some l; x0 = lastOf none l .1; y0 = lastOf none l .0; high = true; x1 = f .1; y1 = f .0; x2 = r .1; y2 = r .0 }
+high-is : (l h : List Pair) (f r : Pair) → some h ≡ 1 → firstOf none h ≡ f → lastOf none h ≡ r
+    → describe l h ≡ record { low = some l; x0 = lastOf none l .1; y0 = lastOf none l .0; high = 1; x1 = f .1; y1 = f .0; x2 = r .1; y2 = r .0 }
 high-is l h f r a b c = rw (a, b, c)
 
-low-new : (s : Sides) (p : Pair) → s .low ≡ true → lt (s .y0) (p .0) ≡ true → putLow s p ≡ withLow s p
+low-new : (s : Sides) (p : Pair) → s .low ≡ 1 → lt (s .y0) (p .0) ≡ true → putLow s p ≡ withLow s p
 unfolding putLow
 low-new s p h e = rw (h, e)
 
-low-old : (s : Sides) (p : Pair) → s .low ≡ true → lt (s .y0) (p .0) ≡ false → putLow s p ≡ s
+low-old : (s : Sides) (p : Pair) → s .low ≡ 1 → lt (s .y0) (p .0) ≡ false → putLow s p ≡ s
 unfolding putLow
 low-old s p h e = rw (h, e)
 
-high-last : (s : Sides) (p : Pair) → s .high ≡ true → lt (s .y1) (p .0) ≡ true → lt (s .y2) (p .0) ≡ true → putHigh s p ≡ withHigh s (s .y1, s .x1) p
+high-last : (s : Sides) (p : Pair) → s .high ≡ 1 → lt (s .y1) (p .0) ≡ true → lt (s .y2) (p .0) ≡ true → putHigh s p ≡ withHigh s (s .y1, s .x1) p
 unfolding putHigh
 high-last s p h e f = rw (h, e, f)
 
-high-old : (s : Sides) (p : Pair) → s .high ≡ true → lt (s .y1) (p .0) ≡ true → lt (s .y2) (p .0) ≡ false → putHigh s p ≡ s
+high-old : (s : Sides) (p : Pair) → s .high ≡ 1 → lt (s .y1) (p .0) ≡ true → lt (s .y2) (p .0) ≡ false → putHigh s p ≡ s
 unfolding putHigh
 high-old s p h e f = rw (h, e, f)
 
-high-first : (s : Sides) (p : Pair) → s .high ≡ true → lt (s .y1) (p .0) ≡ false → putHigh s p ≡ withHigh s p (s .y2, s .x2)
+high-first : (s : Sides) (p : Pair) → s .high ≡ 1 → lt (s .y1) (p .0) ≡ false → putHigh s p ≡ withHigh s p (s .y2, s .x2)
 unfolding putHigh
 high-first s p h e = rw (h, e)
 
@@ -315,7 +315,7 @@ cond-same : (b : Bool) (x : Float) → cond b x x ≡ x
 cond-same true x = refl
 cond-same false x = refl
 
-some-append : (l : List Pair) (h : Pair) (hs : List Pair) → some (l ++ (h ∷ hs)) ≡ true
+some-append : (l : List Pair) (h : Pair) (hs : List Pair) → some (l ++ (h ∷ hs)) ≡ 1
 unfolding some
 some-append [] h hs = refl
 some-append (p ∷ l) h hs = refl
@@ -364,10 +364,10 @@ module _ (t other : Float) where
   unfolding approxOf
   approx-one p = refl
 
-  approx-many : (p : Pair) (r : List Pair) → some r ≡ true
+  approx-many : (p : Pair) (r : List Pair) → some r ≡ 1
       → approxOf (p ∷ r) t other ≡ cond (le t (p .0)) (p .1) (cond (le (lastOf p r .0) t) (lastOf p r .1) (windowOf p r t))
   unfolding approxOf some
-  approx-many p [] h = clash' h
+  approx-many p [] h = absurd (omega (arith, h))
   approx-many p (q ∷ l) h =
       let a : eqb (length (p ∷ (q ∷ l))) 0 ≡ false = ne-eqb _ 0 (λ (z : length (p ∷ (q ∷ l)) ≡ 0). omega (arith, z)) in
       let b : eqb (length (p ∷ (q ∷ l))) 1 ≡ false = ne-eqb _ 1 (λ (z : length (p ∷ (q ∷ l)) ≡ 1). omega (arith, z)) in
@@ -381,7 +381,7 @@ module _ (t other : Float) where
       by-test true o = o
       by-test false o = clash (sym (not-below (p .0) t n o h) ∙ e)
 
-  highs-alone : (p : Pair) (r : List Pair) → isNan (p .0) ≡ false → lt (p .0) t ≡ false → some r ≡ true
+  highs-alone : (p : Pair) (r : List Pair) → isNan (p .0) ≡ false → lt (p .0) t ≡ false → some r ≡ 1
       → cond (le t (p .0)) (p .1) (lastOf p r .1) ≡ cond (le t (p .0)) (p .1) (cond (le (lastOf p r .0) t) (lastOf p r .1) (windowOf p r t))
   highs-alone p r n h o = by-test (le t (p .0)) refl
     where

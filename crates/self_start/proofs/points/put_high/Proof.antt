@@ -1,6 +1,7 @@
 use mathlib.Core.Path.{_∙_}
 use Rattle.self_start.specs.Sides.{putHigh}
 use borrow.Author.Needs.{needs}
+use borrow.Author.Tests.{eq-eqb, ne-eqb}
 use Rattle.self_start.proofs.points.put_high.Statement.{statement}
 use Rattle.self_start.proofs.points.put_high.Tie as tie
 
@@ -9,25 +10,25 @@ with-high-requires c κs = search needs
 
 returns : tie.Need-returns
 unfolding putHigh
-returns c = c .with-high .ensures ∙ rw (c .before .before .before .before .before .if1 .taken, c .before .before .before .if2 .taken, c .before .if3 .taken)
+returns c = c .with-high .ensures ∙ rw (eq-eqb _ _ (c .before .before .before .before .before .if1 .taken), c .before .before .before .if2 .taken, c .before .if3 .taken)
 
 returns-2 : tie.Need-returns-2
 unfolding putHigh
-returns-2 c = rw (c .before .before .before .before .if1 .taken, c .before .before .if2 .taken, c .if3 .left)
+returns-2 c = rw (eq-eqb _ _ (c .before .before .before .before .if1 .taken), c .before .before .if2 .taken, c .if3 .left)
 
 with-high-requires-2 : tie.Need-with-high-requires-2
 with-high-requires-2 c κs = search needs
 
 returns-3 : tie.Need-returns-3
 unfolding putHigh
-returns-3 c = c .with-high2 .ensures ∙ rw (c .before .before .before .if1 .taken, c .before .if2 .left)
+returns-3 c = c .with-high2 .ensures ∙ rw (eq-eqb _ _ (c .before .before .before .if1 .taken), c .before .if2 .left)
 
 with-high-requires-3 : tie.Need-with-high-requires-3
 with-high-requires-3 c κs = search needs
 
 returns-4 : tie.Need-returns-4
 unfolding putHigh
-returns-4 c = c .with-high3 .ensures ∙ rw (c .before .if1 .left)
+returns-4 c = c .with-high3 .ensures ∙ rw (ne-eqb _ _ (c .before .if1 .left))
 
 pub put-high-spec : {M : Type 1} → statement M
 put-high-spec =

@@ -1,8 +1,8 @@
 use mathlib.Core.Path.{sym}
 use Rattle.self_start.proofs.Starts.{ssmicmen-none, ssmicmen-yes}
 use borrow.Author.Needs.{needs}
-use Rattle.self_start.proofs.curves.self_start_ssmicmen.Statement.{statement}
-use Rattle.self_start.proofs.curves.self_start_ssmicmen.Tie as tie
+use Rattle.self_start.proofs.formulas.self_start_ssmicmen.Statement.{statement}
+use Rattle.self_start.proofs.formulas.self_start_ssmicmen.Tie as tie
 
 returns : tie.Need-returns
 returns c = ssmicmen-none (c .before .before .before .args .x .now) (c .before .before .before .args .y .now) (sym (c .before .before .before .pre .even)) (c .if1 .taken)

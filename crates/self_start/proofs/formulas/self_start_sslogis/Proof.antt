@@ -2,8 +2,8 @@ use mathlib.Core.Path.{sym, _∙_}
 use borrow.Author.Tests.{not-true, not-false}
 use Rattle.self_start.proofs.Starts.{sslogis-few, sslogis-wild, sslogis-low, sslogis-yes}
 use borrow.Author.Needs.{needs}
-use Rattle.self_start.proofs.curves.self_start_sslogis.Statement.{statement}
-use Rattle.self_start.proofs.curves.self_start_sslogis.Tie as tie
+use Rattle.self_start.proofs.formulas.self_start_sslogis.Statement.{statement}
+use Rattle.self_start.proofs.formulas.self_start_sslogis.Tie as tie
 
 returns : tie.Need-returns
 returns c = sslogis-few (c .before .before .before .args .x .now) (c .before .before .before .args .y .now) (sym (c .before .before .before .pre .even)) (c .if1 .taken)

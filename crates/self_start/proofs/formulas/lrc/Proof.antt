@@ -1,7 +1,7 @@
 use Rattle.self_start.specs.Start.{lrcOf}
 use borrow.Author.Needs.{needs}
-use Rattle.self_start.proofs.curves.lrc.Statement.{statement}
-use Rattle.self_start.proofs.curves.lrc.Tie as tie
+use Rattle.self_start.proofs.formulas.lrc.Statement.{statement}
+use Rattle.self_start.proofs.formulas.lrc.Tie as tie
 
 ln-requires : tie.Need-ln-requires
 ln-requires c κs = search needs

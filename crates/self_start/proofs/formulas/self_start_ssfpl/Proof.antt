@@ -2,8 +2,8 @@ use mathlib.Core.Path.{sym, _∙_}
 use borrow.Author.Tests.{not-true, not-false}
 use Rattle.self_start.proofs.Starts.{ssfpl-few, ssfpl-near, ssfpl-yes}
 use borrow.Author.Needs.{needs}
-use Rattle.self_start.proofs.curves.self_start_ssfpl.Statement.{statement}
-use Rattle.self_start.proofs.curves.self_start_ssfpl.Tie as tie
+use Rattle.self_start.proofs.formulas.self_start_ssfpl.Statement.{statement}
+use Rattle.self_start.proofs.formulas.self_start_ssfpl.Tie as tie
 
 returns : tie.Need-returns
 returns c = ssfpl-few (c .before .before .before .args .x .now) (c .before .before .before .args .y .now) (sym (c .before .before .before .pre .even)) (c .if1 .taken)

@@ -1,8 +1,8 @@
 use mathlib.Core.Path.{sym}
 use Rattle.self_start.proofs.Starts.{ssasymp-none, ssasymp-yes}
 use borrow.Author.Needs.{needs}
-use Rattle.self_start.proofs.curves.self_start_ssasymp.Statement.{statement}
-use Rattle.self_start.proofs.curves.self_start_ssasymp.Tie as tie
+use Rattle.self_start.proofs.formulas.self_start_ssasymp.Statement.{statement}
+use Rattle.self_start.proofs.formulas.self_start_ssasymp.Tie as tie
 
 ln-requires : tie.Need-ln-requires
 ln-requires c κs = search needs

@@ -1,7 +1,7 @@
 use Rattle.self_start.specs.Start.{scalOf}
 use borrow.Author.Needs.{needs}
-use Rattle.self_start.proofs.curves.scal_or_one.Statement.{statement}
-use Rattle.self_start.proofs.curves.scal_or_one.Tie as tie
+use Rattle.self_start.proofs.formulas.scal_or_one.Statement.{statement}
+use Rattle.self_start.proofs.formulas.scal_or_one.Tie as tie
 
 is-finite-requires : tie.Need-is-finite-requires
 is-finite-requires c κs = search needs
