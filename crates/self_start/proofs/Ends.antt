@@ -19,6 +19,7 @@ unfoldable pub firstOf : Pair → List Pair → Pair
 firstOf d [] = d
 firstOf d (p ∷ ps) = p
 
+-- 1 where there is a pair, as the sides tell it
 unfoldable pub some : List Pair → ℕ
 some [] = 0
 some (p ∷ ps) = 1

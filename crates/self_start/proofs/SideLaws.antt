@@ -1,6 +1,6 @@
 -- What `approx` reads of points sorted by grams: only the last below the target, the first of the others and the last of the others. Assumes nothing.
 use mathlib.Core.Path.{_≡_, refl, sym, ap, _∙_}
-use mathlib.Core.Bool.{Bool, true, false, _&&_, cond}
+use mathlib.Core.Bool.{Bool, true, false, cond, and-false}
 use mathlib.Core.List.{List, [], _∷_, _++_, append-nil}
 use Prim.Native.Nat.{ℕ, _+_, _-_, _≤_, _<_}
 use native.Mathlib.Omega.{arith}
@@ -18,10 +18,6 @@ use Rattle.self_start.specs.declared.points.Sides.{Sides}
 use Rattle.self_start.proofs.Ends.{lastOf, firstOf, some, some-append, last-append, last-at}
 use Rattle.self_start.proofs.Cut.{describe, Below, below-last, cut}
 use Rattle.self_start.proofs.Zips.{pair-at, pairs-end}
-
-and-false : (b : Bool) → (b && false) ≡ false
-and-false true = refl
-and-false false = refl
 
 cond-same : (b : Bool) (x : Float) → cond b x x ≡ x
 cond-same true x = refl
