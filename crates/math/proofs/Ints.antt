@@ -18,7 +18,7 @@ use Rattle.math.proofs.Basic.{clash, clash'}
 use Rattle.math.specs.Basic.{sub, mul, add, half, one}
 use Rattle.math.specs.Words.{low12, addExp, toInt, withSign, isZero}
 use Rattle.math.specs.Ln.{normalOf, bodyOf, normalised, halved}
-use Rattle.math.specs.Exp.{scaleOf, farOf, primaryOf, invln2, ln2HI, ln2LO, twom1000}
+use Rattle.math.specs.Exp.{scaleOf, farOf, nearOf, primaryOf, invln2, ln2HI, ln2LO, twom1000}
 
 -- ---- the lowest 12 bits
 pub cast-up : (k z : ℤ) → z ≡ k → SFits w64 k → leZ (pos 0) z ≡ true → T (nonNeg z) × Fits w64 (natAbs z)
@@ -128,10 +128,15 @@ module _ (v : Float) where
   unfolding toInt
   to-int-below h = rw h
 
-pub far-is : (x : Float) (xsb : ℕ) (s : Float) (r z : ℤ) (t out : Float) → s ≡ withSign xsb half → r ≡ toInt (add (mul invln2 x) s) → z ≡ r → t ≡ ofInt binary64 z
-    → out ≡ primaryOf (sub (sub x (mul t ln2HI)) (mul t ln2LO)) (sub x (mul t ln2HI)) (mul t ln2LO) z → out ≡ farOf x xsb
+pub far-is : (x : Float) (xsb : ℕ) (s : Float) (k : ℤ) (out : Float) → s ≡ withSign xsb half → toInt (add (mul invln2 x) s) ≡ k
+    → out ≡ primaryOf (sub (sub x (mul (ofInt binary64 k) ln2HI)) (mul (ofInt binary64 k) ln2LO)) (sub x (mul (ofInt binary64 k) ln2HI)) (mul (ofInt binary64 k) ln2LO) k → out ≡ farOf x xsb
 unfolding farOf
-far-is x xsb s r z t out hs hr hz ht ho = rw (ho, ht, hz, hr, hs)
+far-is x xsb s k out hs hk ho = rw (ho, ← hk, hs)
+
+pub near-is : (x : Float) (xsb : ℕ) (a b : Float) (r z : ℤ) (out : Float) → a ≡ withSign xsb ln2HI → b ≡ withSign xsb ln2LO → r ≡ cond (eqb xsb 0) (pos 1) (negsuc 0) → z ≡ r
+    → out ≡ primaryOf (sub (sub x a) b) (sub x a) b z → out ≡ nearOf x xsb
+unfolding nearOf
+near-is x xsb a b r z out ha hb hr hz ho = rw (ho, hz, hr, ha, hb)
 
 -- ---- a sum of small numbers is small
 mag-sub : (a c : ℕ) (t : Bool) → mag (cond t (negsuc (c - suc a)) (pos (a - c))) ≤ a + c
@@ -144,7 +149,7 @@ mag-add (pos a) (negsuc b) = omega (arith, mag-sub a (suc b) (ltb a (suc b)))
 mag-add (negsuc a) (pos b) = omega (arith, mag-sub b (suc a) (ltb b (suc a)))
 mag-add (negsuc a) (negsuc b) = omega arith
 
-sfits-small : (z : ℤ) → mag z < 2 ^ 20 → SFits w64 z
+pub sfits-small : (z : ℤ) → mag z < 2 ^ 20 → SFits w64 z
 sfits-small z h = record { sfits = omega (arith, h) }
 
 pub small-is : (n : ℕ) → n < 2 ^ 20 → toZ w64 n ≡ pos n
