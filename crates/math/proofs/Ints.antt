@@ -189,3 +189,15 @@ word-at (negsuc n) l u = record { sfits = omega (arith, ltb-false 2147483647 n l
 
 pub word-fits : (k z : ℤ) → z ≡ k → ltZ z (negsuc 2147483647) ≡ false → ltZ (pos 2147483647) z ≡ false → SFits w32 z
 word-fits k z e l u = rw e (word-at k (rw e at l) (rw e at u))
+
+-- ---- ln's digits between 0x6147a and 0x6b851, by one test
+module _ (hx : ℕ) (m s : Float) (h : hx < 2 ^ 20) where
+  pub inside : (hx + 0x9_eb86) % 2 ^ 20 ≤ 0xa3d7 → cond (leb 0x6_147a hx) (cond (leb hx 0x6_b851) m s) s ≡ m
+  inside t = rw (le-leb 0x6_147a hx (omega (arith, h, t)), le-leb hx 0x6_b851 (omega (arith, h, t)))
+
+  pub outside : 0xa3d7 < (hx + 0x9_eb86) % 2 ^ 20 → cond (leb 0x6_147a hx) (cond (leb hx 0x6_b851) m s) s ≡ s
+  outside t = go (leb 0x6_147a hx) refl
+    where
+      go : (b : Bool) → leb 0x6_147a hx ≡ b → cond b (cond (leb hx 0x6_b851) m s) s ≡ s
+      go true e = rw (lt-leb hx 0x6_b851 (omega (arith, h, t, leb-true 0x6_147a hx e)))
+      go false e = refl
