@@ -7,7 +7,7 @@ use native.Mathlib.Numerals.{add-one}
 use native.Mathlib.Omega.{arith}
 use lib.ListN.{length, drop, getD}
 use lib.Seq.{drop-cons, drop-length}
-use Rattle.cases.specs.Same.{sameLists}
+use Rattle.math.specs.Lists.{sameLists}
 
 and-false : (b : Bool) → b && false ≡ false
 and-false true = refl

@@ -6,7 +6,7 @@ use mathlib.Core.List.{List}
 use borrow.Author.Tests.{le-leb, lt-leb}
 use lib.Ieee.{Float}
 use Rattle.math.specs.Basic.{zero}
-use Rattle.cases.specs.Same.{sameBytes}
+use Rattle.math.specs.Lists.{sameBytes}
 use Rattle.cases.specs.Digits.{decimalOf, floatOf}
 use Rattle.cases.specs.Cursor.{fault, wordAt, bytesOf, namedAt, wholeAt, wholeFrom, floatAt, floatFrom}
 use Rattle.cases.specs.Lists.{lengthAt}

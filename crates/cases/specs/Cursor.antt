@@ -6,7 +6,7 @@ use lib.Dec.{ltb}
 use lib.ListN.{length, take, drop}
 use Rattle.bytes.specs.Bytes.{indexOf, slice}
 use Rattle.math.specs.Basic.{zero}
-use Rattle.cases.specs.Same.{sameBytes}
+use Rattle.math.specs.Lists.{sameBytes}
 use Rattle.cases.specs.Digits.{decimalOf, floatOf}
 use Rattle.cases.specs.declared.cursor.Cursor.{Cursor}
 use Rattle.cases.specs.declared.cursor.NextWord.{NextWord}

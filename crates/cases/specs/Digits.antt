@@ -5,7 +5,7 @@ use mathlib.Core.List.{List, [], _∷_}
 use lib.Dec.{ltb, eqb}
 use lib.ListN.{length}
 use lib.Ieee.{binary64, ofBits, nan}
-use Rattle.cases.specs.Same.{sameBytes}
+use Rattle.math.specs.Lists.{sameBytes}
 use Rattle.cases.specs.declared.digits.Number.{Number}
 use Rattle.cases.specs.declared.digits.Number.the-variants as Number
 use Rattle.cases.specs.declared.digits.Real.{Real}

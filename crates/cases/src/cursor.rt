@@ -5,7 +5,7 @@ use crate::digits::Number;
 use crate::digits::Real;
 use crate::digits::decimal;
 use crate::digits::float_of;
-use crate::same::same_bytes;
+use check::same;
 ghost use mathlib.Core.Path.{_≡_};
 ghost use Prim.Native.Nat.{_≤_};
 ghost use mathlib.Core.Bool.{true};
@@ -76,7 +76,7 @@ pub fn named(line: &[u8], c: Cursor, name: &[u8]) -> Cursor
     let start = w.start;
     let end = w.end;
     let next = w.next;
-    if same_bytes(&line[start..end], name) {
+    if same(&line[start..end], name) {
         return next;
     }
     Cursor { at: 0, ok: false }

@@ -1,5 +1,5 @@
 // A word's digits read as a number, and a word read as a float.
-use crate::same::same_bytes;
+use check::same;
 use math::words::of_bits;
 ghost use mathlib.Core.Path.{_≡_};
 ghost use Rattle.cases.specs.Digits.{digitOf, numberOf, hexOf, decimalOf, floatOf};
@@ -85,7 +85,7 @@ pub fn float_of(w: &[u8]) -> Real
     ensures { λ r. ⌜ r ≡ floatOf (now (w .entry)) ⌝ }
 {
     let nan = [110, 97, 110];
-    if same_bytes(w, &nan) {
+    if same(w, &nan) {
         return Real::Is(of_bits(0x7ff8_0000_0000_0000));
     }
     match hex(w) {

@@ -1,23 +1,8 @@
-// Equality, of words and of floats bit by bit.
+// Equality of floats, bit by bit.
 use math::words::bits_of;
 ghost use mathlib.Core.Path.{_≡_};
-ghost use Rattle.cases.specs.Same.{sameBytes, sameBits, sameLists};
-
-pub fn same_bytes(a: &[u8], b: &[u8]) -> bool
-    ensures { λ r. ⌜ r ≡ sameBytes (now (a .entry)) (now (b .entry)) ⌝ }
-{
-    if a.len() != b.len() {
-        return false;
-    }
-    let mut i = 0;
-    while i < a.len() {
-        if a[i] != b[i] {
-            return false;
-        }
-        i += 1;
-    }
-    true
-}
+ghost use Rattle.math.specs.Lists.{sameLists};
+ghost use Rattle.cases.specs.Same.{sameBits};
 
 // Whether a and b have the same bits; all NaNs count as one value.
 pub fn same_float(a: f64, b: f64) -> bool

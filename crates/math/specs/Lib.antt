@@ -8,3 +8,6 @@ pub mod Loops
 pub mod Parts
 pub mod Order
 pub mod Numbers
+pub mod Lists
+pub mod Matrix
+pub mod Rationals

@@ -9,7 +9,7 @@ use borrow.Author.Tests.{ltb-true}
 use lib.ListN.{length, drop, getD, set, drop-of-length-le}
 use lib.Seq.{drop-cons, set-out}
 use Rattle.math.specs.Loops.{until-stop, until-go, until-done}
-use Rattle.readings.specs.Bytes.{stopsAt, meets, count}
+use Rattle.readings.specs.Classes.{stopsAt, meets, count}
 use Rattle.readings.specs.Table.{sameName, findFrom, findOf, putAt}
 
 and-first : (a b : Bool) → (a && b) ≡ true → a ≡ true

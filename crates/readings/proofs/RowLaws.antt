@@ -6,7 +6,7 @@ use mathlib.Core.List.{List}
 use borrow.Author.Tests.{lt-ltb, le-ltb}
 use lib.Dec.{ltb, eqb}
 use lib.ListN.{length, take, drop}
-use Rattle.readings.specs.Bytes.{spaces, aWord, toQuote, toSeparator, toLetter, meets, scanOf}
+use Rattle.readings.specs.Classes.{spaces, aWord, toQuote, toSeparator, toLetter, meets, scanOf}
 use Rattle.readings.specs.Row.{closingOf, wordOf, afterOf, nextOf, fieldOf, numberOf, namedOf, faultOf, rowOf}
 use Rattle.readings.specs.declared.row.Word.{Word}
 use Rattle.readings.specs.declared.row.Field.{Field}

@@ -8,7 +8,7 @@ use borrow.Author.Tests.{lt-ltb, le-ltb, le-leb, lt-leb, eq-eqb, ne-eqb, ltb-tru
 use lib.Dec.{ltb, leb, eqb}
 use lib.ListN.{length, take}
 use lib.Ieee.{Float}
-use Rattle.readings.specs.Bytes.{toNewline, toComment, scanOf}
+use Rattle.readings.specs.Classes.{toNewline, toComment, scanOf}
 use Rattle.readings.specs.Row.{rowOf}
 use Rattle.readings.specs.Table.{State, findOf, stillOf, markedOf, takenOf, enteredOf, settledOf, pastOf, moveOf, state, roomOf, putAt, stepOf, runs, linesOf, lastFault, finishOf}
 use Rattle.readings.specs.declared.row.Row.{Row}

@@ -1,3 +1,3 @@
-pub mod Bytes
+pub mod Classes
 pub mod Row
 pub mod Table

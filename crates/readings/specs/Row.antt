@@ -10,7 +10,7 @@ use Rattle.math.specs.Parts.{part}
 use Rattle.decimal.specs.Decimal.{decimalOf}
 use Rattle.decimal.specs.declared.Decimal.{Decimal}
 use Rattle.decimal.specs.declared.Decimal.the-variants as Decimal
-use Rattle.readings.specs.Bytes.{spaces, aWord, toQuote, toSeparator, toLetter, aName, meets, scanOf}
+use Rattle.readings.specs.Classes.{spaces, aWord, toQuote, toSeparator, toLetter, aName, meets, scanOf}
 use Rattle.readings.specs.declared.row.Word.{Word}
 use Rattle.readings.specs.declared.row.Field.{Field}
 use Rattle.readings.specs.declared.row.Number.{Number}

@@ -8,9 +8,9 @@ use lib.ListN.{length, take, getD, set}
 use lib.Ieee.{Float}
 use Rattle.math.specs.Basic as Basic
 use Rattle.math.specs.Loops.{until}
+use Rattle.math.specs.Lists.{sameBytes}
 use Rattle.math.specs.Parts.{part}
-use Rattle.cases.specs.Same.{sameBytes}
-use Rattle.readings.specs.Bytes.{toNewline, toComment, scanOf}
+use Rattle.readings.specs.Classes.{toNewline, toComment, scanOf}
 use Rattle.readings.specs.Row.{rowOf}
 use Rattle.readings.specs.declared.row.Row.{Row}
 use Rattle.readings.specs.declared.step.Progress.{Progress}

@@ -1,5 +1,5 @@
 // The canisters' names that were seen, and values put into the lists.
-use cases::same::same_bytes;
+use check::same;
 ghost use mathlib.Core.Path.{_≡_};
 ghost use mathlib.Core.Bool.{cond};
 ghost use Prim.Native.Nat.{_≤_, _*_, _+_};
@@ -15,7 +15,7 @@ fn same_name(text: &[u8], a: u64, e: u64, start: usize, stop: usize) -> bool
     let to = e as usize;
     if from <= to {
         if to <= text.len() {
-            return same_bytes(&text[from..to], &text[start..stop]);
+            return same(&text[from..to], &text[start..stop]);
         }
     }
     false

@@ -1,5 +1,5 @@
 // Reads a table of readings: a line for each, with dose, grams and canister.
-pub mod bytes;
+pub mod classes;
 pub mod enter;
 pub mod row;
 pub mod step;

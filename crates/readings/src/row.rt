@@ -1,6 +1,6 @@
 // One line: its three fields, and what they say.
-use crate::bytes::met;
-use crate::bytes::scan;
+use crate::classes::met;
+use crate::classes::scan;
 use decimal::Decimal;
 use decimal::read_decimal;
 ghost use mathlib.Core.Path.{_≡_};

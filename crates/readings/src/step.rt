@@ -1,5 +1,5 @@
 // One line after the other: what a line changes.
-use crate::bytes::scan;
+use crate::classes::scan;
 use crate::enter::find;
 use crate::enter::put_float;
 use crate::enter::put_whole;

@@ -6,7 +6,8 @@ use borrow.Author.Needs.{needs}
 use borrow.Author.Tests.{not-true, not-false}
 use lib.Ieee.{nan}
 use lib.ListN.{length, drop}
-use Rattle.cases.specs.Same.{sameLists, sameBits}
+use Rattle.math.specs.Lists.{sameLists}
+use Rattle.cases.specs.Same.{sameBits}
 use Rattle.cases.proofs.Equality.{unequal-lengths, same-here, other-here, same-all}
 use Rattle.cases.proofs.same.same_floats.Statement.{statement}
 use Rattle.cases.proofs.same.same_floats.Tie as tie

@@ -1,8 +1,8 @@
 -- Each test of the code is one of the definition. Assumes nothing.
 use mathlib.Core.Path.{refl}
 use borrow.Author.Tests.{le-leb, lt-leb}
-use Rattle.readings.proofs.bytes.is_digit.Statement.{statement}
-use Rattle.readings.proofs.bytes.is_digit.Tie as tie
+use Rattle.readings.proofs.classes.is_digit.Statement.{statement}
+use Rattle.readings.proofs.classes.is_digit.Tie as tie
 
 returns : tie.Need-returns
 returns c = rw (lt-leb _ _ (c .if1 .taken))

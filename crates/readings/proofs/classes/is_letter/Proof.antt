@@ -1,9 +1,9 @@
 -- Each test of the code is one of the definition. Assumes nothing.
 use mathlib.Core.Path.{refl}
 use borrow.Author.Tests.{le-ltb, lt-ltb}
-use Rattle.readings.specs.Bytes.{isLetter}
-use Rattle.readings.proofs.bytes.is_letter.Statement.{statement}
-use Rattle.readings.proofs.bytes.is_letter.Tie as tie
+use Rattle.readings.specs.Classes.{isLetter}
+use Rattle.readings.proofs.classes.is_letter.Statement.{statement}
+use Rattle.readings.proofs.classes.is_letter.Tie as tie
 
 returns : tie.Need-returns
 unfolding isLetter

@@ -1,10 +1,10 @@
 -- Each test of the code is one of the definition. Assumes nothing.
 use mathlib.Core.Path.{refl}
 use borrow.Author.Tests.{le-ltb, lt-ltb}
-use Rattle.readings.specs.Bytes.{meets}
+use Rattle.readings.specs.Classes.{meets}
 use borrow.Author.Needs.{needs}
-use Rattle.readings.proofs.bytes.met.Statement.{statement}
-use Rattle.readings.proofs.bytes.met.Tie as tie
+use Rattle.readings.proofs.classes.met.Statement.{statement}
+use Rattle.readings.proofs.classes.met.Tie as tie
 
 shared-slice-read-stops : tie.Need-shared-slice-read-stops
 shared-slice-read-stops c = search needs

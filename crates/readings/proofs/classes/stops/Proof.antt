@@ -1,11 +1,11 @@
 -- Each test of the code is one of the definition. Assumes nothing.
 use mathlib.Core.Path.{refl, sym, ap, _∙_}
 use borrow.Author.Tests.{eq-eqb, ne-eqb}
-use Rattle.readings.specs.Bytes.{stopsAt}
+use Rattle.readings.specs.Classes.{stopsAt}
 use mathlib.Core.Bool.{not}
 use borrow.Author.Needs.{needs}
-use Rattle.readings.proofs.bytes.stops.Statement.{statement}
-use Rattle.readings.proofs.bytes.stops.Tie as tie
+use Rattle.readings.proofs.classes.stops.Statement.{statement}
+use Rattle.readings.proofs.classes.stops.Tie as tie
 
 is-space-requires : tie.Need-is-space-requires
 is-space-requires c κs = search needs

@@ -1,10 +1,10 @@
 -- Each test of the code is one of the definition. Assumes nothing.
 use mathlib.Core.Path.{refl, sym, _∙_}
 use borrow.Author.Tests.{eq-eqb, ne-eqb}
-use Rattle.readings.specs.Bytes.{isNameByte}
+use Rattle.readings.specs.Classes.{isNameByte}
 use borrow.Author.Needs.{needs}
-use Rattle.readings.proofs.bytes.is_name_byte.Statement.{statement}
-use Rattle.readings.proofs.bytes.is_name_byte.Tie as tie
+use Rattle.readings.proofs.classes.is_name_byte.Statement.{statement}
+use Rattle.readings.proofs.classes.is_name_byte.Tie as tie
 
 is-letter-requires : tie.Need-is-letter-requires
 is-letter-requires c κs = search needs

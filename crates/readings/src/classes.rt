@@ -4,7 +4,7 @@ ghost use mathlib.Core.Bool.{Bool};
 ghost use Prim.Native.Nat.{_≤_};
 ghost use lib.ListN.{length};
 ghost use Rattle.decimal.specs.Scan.{isDigit};
-ghost use Rattle.readings.specs.Bytes.{isSpace, isSeparator, isLetter, isNameByte, stopsAt, meets, scanOf};
+ghost use Rattle.readings.specs.Classes.{isSpace, isSeparator, isLetter, isNameByte, stopsAt, meets, scanOf};
 
 pub fn is_space(b: u8) -> bool
     ensures { λ r. ⌜ r ≡ isSpace b ⌝ }

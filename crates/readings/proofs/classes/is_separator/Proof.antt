@@ -1,9 +1,9 @@
 -- Each test of the code is one of the definition. Assumes nothing.
 use mathlib.Core.Path.{refl}
 use borrow.Author.Tests.{eq-eqb, ne-eqb}
-use Rattle.readings.specs.Bytes.{isSeparator}
-use Rattle.readings.proofs.bytes.is_separator.Statement.{statement}
-use Rattle.readings.proofs.bytes.is_separator.Tie as tie
+use Rattle.readings.specs.Classes.{isSeparator}
+use Rattle.readings.proofs.classes.is_separator.Statement.{statement}
+use Rattle.readings.proofs.classes.is_separator.Tie as tie
 
 returns : tie.Need-returns
 unfolding isSeparator

@@ -4,10 +4,10 @@ use mathlib.Core.Path.{_≡_, refl, sym, _∙_}
 use native.Mathlib.Omega.{arith}
 use borrow.Author.Needs.{needs}
 use lib.ListN.{length, drop}
-use Rattle.readings.specs.Bytes.{count, scanOf}
+use Rattle.readings.specs.Classes.{count, scanOf}
 use Rattle.readings.proofs.Laws.{count-stop, count-more, count-none}
-use Rattle.readings.proofs.bytes.scan.Statement.{statement}
-use Rattle.readings.proofs.bytes.scan.Tie as tie
+use Rattle.readings.proofs.classes.scan.Statement.{statement}
+use Rattle.readings.proofs.classes.scan.Tie as tie
 
 abbrev Inv-loop : tie.InvT-loop
 Inv-loop text at k i₀ i = (at ≤ i) × (i ≤ length text) × (i + count k (drop i text) ≡ at + count k (drop at text))
