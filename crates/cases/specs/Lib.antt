@@ -1,4 +1,5 @@
 pub mod Same
+pub mod Lent
 pub mod Digits
 pub mod Cursor
 pub mod Lists

@@ -9,6 +9,7 @@
 //     }
 use libc::STDIN_FILENO;
 ghost use mathlib.Core.Path.{_≡_};
+ghost use mathlib.Core.Bool.{false};
 ghost use Prim.Native.Nat.{_+_, _≤_, _<_, _^_, min};
 ghost use lib.ListN.{length, take, drop};
 ghost use Rattle.cases.specs.Lines.{Advanced};
@@ -29,7 +30,10 @@ pub struct Run {
     skip: bool,
 }
 
-pub fn standard_input() -> Run {
+// Before the first turn.
+pub fn standard_input() -> Run
+    ensures { λ r. ⌜ (r .here ≡ false) × (r .lines ≡ 0) × (r .faults ≡ 0) ⌝ }
+{
     Run {
         turns: 18446744073709551615,
         here: false,

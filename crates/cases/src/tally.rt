@@ -3,8 +3,9 @@
 use crate::lines::Run;
 use crate::lines::more;
 use libc::STDOUT_FILENO;
+ghost use mathlib.Core.Path.{_≡_};
 ghost use Prim.Native.Nat.{_<_};
-ghost use Rattle.cases.specs.Tally.{Sound};
+ghost use Rattle.cases.specs.Tally.{Sound, verdictOf};
 
 // What a judge says of a line: the operation's place, and whether the answers agree.
 pub enum Verdict {
@@ -38,7 +39,9 @@ pub fn none() -> Tally
     }
 }
 
-pub fn verdict_of(op: usize, same: bool) -> Verdict {
+pub fn verdict_of(op: usize, same: bool) -> Verdict
+    ensures { λ r. ⌜ r ≡ verdictOf op same ⌝ }
+{
     if same {
         Verdict::Agrees(op)
     } else {
