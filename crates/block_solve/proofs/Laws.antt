@@ -1,7 +1,7 @@
--- A group's effects written into their part of the list, the test of every component, the finished direction by what its parts answered, and the laws of the two loops that may stop. Assumes nothing.
+-- A group's effects written into their part of the list, the finished direction by what its parts answered, and the laws of the two loops that may stop. Assumes nothing.
 use Prim.Native.Nat.{ℕ, zero, suc, _+_, _*_, _-_, _≤_, _<_}
 use mathlib.Core.Path.{_≡_, refl, sym, ap, _∙_}
-use mathlib.Core.Bool.{Bool, true, false, cond, _&&_}
+use mathlib.Core.Bool.{Bool, true, false, cond}
 use mathlib.Core.List.{List, [], _∷_, _++_, append-assoc}
 use mathlib.Core.Option.{Option, none, some}
 use native.Mathlib.Numerals.{add-one}
@@ -11,14 +11,14 @@ use borrow.Author.Tests.{eqb-true, eqb-false}
 use lib.Dec.{eqb}
 use lib.Ieee.{Float, nan}
 use lib.ListN.{length, take, drop, set, getD, length-append, length-take}
-use lib.Seq.{take-at, take-suc, take-suc-set, drop-cons, drop-length}
+use lib.Seq.{take-at, take-suc, take-suc-set}
 use Rattle.math.specs.Loops.{until-stop, until-go, until-done}
 use Rattle.math.specs.Parts.{part, put, part-length}
 use Rattle.linalg.specs.declared.elimination.Solution.{Solution}
 use Rattle.linalg.specs.Elimination.{solveOf}
 use Rattle.block_solve.specs.declared.normal.BlockNormal.{BlockNormal}
 use Rattle.block_solve.specs.declared.direction.Eliminated.{Eliminated}
-use Rattle.block_solve.specs.Direction.{noColumn, noColumns, stored, allColumns, columnsFrom, noGroup, stoppedAt, groupStep, groupsFrom, effectsOf, every, isSome, eliminatedOf, finishedOf, componentsOf}
+use Rattle.block_solve.specs.Direction.{noColumn, noColumns, stored, allColumns, columnsFrom, noGroup, stoppedAt, groupStep, groupsFrom, effectsOf, isSome, eliminatedOf, finishedOf, componentsOf}
 
 -- ---- a part's one or two effects
 
@@ -59,17 +59,6 @@ next-group p g k = rw (add-one g, suc-mul g k) (omega arith)
 
 pub take-next : (l x : List Float) (i : ℕ) → i < length l → i < length x → take i l ≡ take i x → take (i + 1) (set l i (getD x i nan)) ≡ take (i + 1) x
 take-next l x i p q h = rw add-one (take-suc-set l i (getD x i nan) p ∙ ap (λ r. r ++ (getD x i nan ∷ [])) h ∙ sym (take-suc x i nan q))
-
--- ---- every element from place i on
-
-module _ (t : Float → Bool) (l : List Float) (i : ℕ) where
-  pub every-stop : i < length l → t (getD l i nan) ≡ false → every t (drop i l) ≡ false
-  unfolding every
-  every-stop p h = rw (drop-cons l i nan p, h) refl
-
-  pub every-go : i < length l → t (getD l i nan) ≡ true → every t (drop i l) ≡ every t (drop (i + 1) l)
-  unfolding every
-  every-go p h = rw (drop-cons l i nan p, h, add-one i) refl
 
 -- ---- the finished direction
 

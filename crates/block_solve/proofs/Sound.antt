@@ -1,11 +1,11 @@
 -- Where there is a direction it is as long as it should be, and each of its components is finite and a binary64 number: the components
 -- are quotients and differences, and `directionOf` itself tests that they are finite. Assumes nothing.
 use mathlib.Core.Path.{_≡_, refl, sym, ap, _∙_, subst}
-use mathlib.Core.Bool.{Bool, true, false, cond, _&&_}
+use mathlib.Core.Bool.{Bool, true, false, cond}
 use mathlib.Core.List.{List, [], _∷_, _++_}
 use mathlib.Core.Option.{Option, none, some, Option·none-ne-some, Option·some-injective}
 use Prim.Native.Nat.{ℕ, zero, suc, _+_, _-_, _*_, _≤_, _<_}
-use native.Mathlib.Nat.{le-of-suc-le-suc, not-suc-le-zero, suc-mul}
+use native.Mathlib.Nat.{suc-mul}
 use native.Mathlib.Omega.{arith}
 use lib.Dec.{T, eqb, leb}
 use lib.Ieee.{Float, nan, binary64, fits}
@@ -14,12 +14,13 @@ use lib.Ieee.Bits.{ofBits-fits}
 use lib.ListN.{length, getD, set, take, replicate, length-set, length-replicate, length-append, length-take}
 use Rattle.math.specs.Basic as Basic
 use Rattle.math.specs.Basic.{sub, div, isFinite}
+use Rattle.math.specs.Lists.{every, every-at}
 use Rattle.math.specs.Loops.{from, until}
 use Rattle.linalg.specs.declared.elimination.System.{System}
 use Rattle.linalg.specs.declared.elimination.Solution.{Solution}
 use Rattle.linalg.specs.Elimination.{known, backOf, noneOf, stopped, cleared, eliminateFrom, solveOf}
 use Rattle.block_solve.specs.declared.normal.BlockNormal.{BlockNormal}
-use Rattle.block_solve.specs.Direction.{every, effectsOf, columnsTimes, appendGroup, componentsOf, eliminatedOf, afterSolve, finishedOf, finiteOnly, directionOf, isSome, isDirection, leftIn}
+use Rattle.block_solve.specs.Direction.{effectsOf, columnsTimes, appendGroup, componentsOf, eliminatedOf, afterSolve, finishedOf, finiteOnly, directionOf, isSome, isDirection, leftIn}
 use Rattle.block_solve.proofs.Laws.{effects-length}
 
 -- ---- what each turn of a loop keeps, the loop keeps
@@ -158,16 +159,6 @@ direction-sound n p k groups t d a b c h =
       finite = f .0;
       held = subst Held j (components-held p k groups (o .x) (e .v) (e .w) four);
     }
-
-both : (b c : Bool) → (b && c) ≡ true → (b ≡ true) × (c ≡ true)
-both true c h = (refl, h)
-both false c h = absurd (subst T (sym h) tt)
-
-pub every-at : {A : Type 0} (t : A → Bool) (l : List A) (i : ℕ) (d : A) → every t l ≡ true → i < length l → t (getD l i d) ≡ true
-unfolding every
-every-at t [] i d h p = absurd (not-suc-le-zero p)
-every-at t (x ∷ xs) zero d h p = both (t x) (every t xs) h .0
-every-at t (x ∷ xs) (suc i) d h p = every-at t xs i d (both (t x) (every t xs) h .1) (le-of-suc-le-suc p)
 
 -- each component of a direction is finite
 pub direction-finite : (n : BlockNormal) (p k groups : ℕ) (t : Float) (d : List Float) (i : ℕ) → directionOf n p k groups t ≡ some d → i < length d

@@ -8,8 +8,11 @@ use borrow.Author.Tests.{le-leb, eq-eqb}
 use lib.Dec.{eqb, leb}
 use lib.Ieee.{Float, nan}
 use lib.ListN.{getD, set, replicate, take}
-use Rattle.math.specs.Basic.{add, sub, mul, zero, bits, maxOf, isFinite}
+use Rattle.math.specs.Basic.{add, sub, mul, zero, maxOf, isFinite}
+use Rattle.math.specs.Lists.{every}
 use Rattle.math.specs.Loops.{span, until}
+use Rattle.math.specs.Matrix.{rows}
+use Rattle.math.specs.Rationals.{1e-8}
 use Rattle.linalg.specs.declared.elimination.System.{System}
 use Rattle.linalg.specs.declared.elimination.Solution.{Solution}
 use Rattle.linalg.specs.declared.pair.Solved.{Solved}
@@ -21,19 +24,14 @@ use Rattle.block_solve.specs.declared.direction.Eliminated.{Eliminated}
 
 -- ---- damping
 
--- 1e-8, below which no diagonal entry is damped by less
-abbrev pub floor : Float
-floor = bits 0x3e45_798e_e230_8c3a
-
--- a diagonal entry x, damped by a share of itself
+-- a diagonal entry x, damped by a share of itself, or of 1e-8 where that is more
 abbrev pub dampedAt : Float → Float → Float
-dampedAt damping x = add x (mul damping (maxOf x floor))
+dampedAt damping x = add x (mul damping (maxOf x 1e-8))
 
 unfoldable pub dampedBlock : List Float → ℕ → Float → List (List Float)
 dampedBlock random g t =
-    (dampedAt t (getD random (g * 4) nan) ∷ getD random (g * 4 + 1) nan ∷ [])
-    ∷ (getD random (g * 4 + 2) nan ∷ dampedAt t (getD random (g * 4 + 3) nan) ∷ [])
-    ∷ []
+    rows (dampedAt t (getD random (g * 4) nan)) (getD random (g * 4 + 1) nan) (getD random (g * 4 + 2) nan)
+    (dampedAt t (getD random (g * 4 + 3) nan))
 
 abbrev pub diagonalAt : List Float → Float → ℕ → List Float → List Float
 diagonalAt f t i a = set a (i * 4 + i) (dampedAt t (getD f (i * 4 + i) nan))
@@ -152,11 +150,6 @@ afterGroups p k groups e = cond (e .found) (afterSolve p k groups e (solveOf p (
 -- the finished direction, none at an exactly zero pivot anywhere
 unfoldable pub finishedOf : BlockNormal → ℕ → ℕ → ℕ → Float → Option (List Float)
 finishedOf n p k groups t = afterGroups p k groups (eliminatedOf n p k groups t)
-
--- each element passes the test
-unfoldable pub every : {A : Type 0} → (A → Bool) → List A → Bool
-every t [] = true
-every t (x ∷ xs) = t x && every t xs
 
 -- the direction: none also where a component of the finished one is not finite
 abbrev pub finiteOnly : Option (List Float) → Option (List Float)

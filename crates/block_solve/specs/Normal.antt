@@ -9,8 +9,8 @@ use lib.Ieee.{Float, nan}
 use lib.ListN.{getD, set, replicate, length}
 use Rattle.math.specs.Basic.{add, sub, mul, zero}
 use Rattle.math.specs.Loops.{iter}
+use Rattle.math.specs.Matrix.{entry}
 use Rattle.math.specs.Parts.{part}
-use Rattle.linalg.specs.Pair.{entry}
 use Rattle.block_solve.specs.declared.normal.BlockNormal.{BlockNormal}
 
 -- `BlockNormal::new`

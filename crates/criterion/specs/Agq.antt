@@ -4,14 +4,16 @@ use mathlib.Core.Path.{_≡_, refl}
 use mathlib.Core.Bool.{Bool, true, false, not, _||_, cond}
 use mathlib.Core.List.{List, [], _∷_, _++_}
 use lib.Dec.{eqb}
-use lib.Ieee.{Float, nan, binary64, le, neg, round, ofBits}
+use lib.Ieee.{Float, nan, le, neg, round, ofBits}
 use lib.ListN.{getD, length}
 use Rattle.math.specs.Basic.{add, sub, mul, div, bits, zero, half, one, two, isFinite}
 use Rattle.math.specs.Ln.{lnOf}
 use Rattle.math.specs.Sqrt.{sqrtOf}
 use Rattle.math.specs.Loops.{iter, until}
+use Rattle.math.specs.Matrix.{rows, entry}
 use Rattle.math.specs.Parts.{part}
-use Rattle.re_cov.specs.ReCov.{rows, entry, dotOf, inverseOf, penaltyOf}
+use Rattle.math.specs.Rationals.{over}
+use Rattle.re_cov.specs.ReCov.{dotOf, inverseOf, penaltyOf}
 use Rattle.linalg.specs.Pair as Pair
 use Rattle.linalg.specs.declared.pair.Matrix.{Matrix}
 use Rattle.linalg.specs.declared.pair.Matrix.the-variants.{Entries}
@@ -36,7 +38,7 @@ minusHalf = bits 0xbfe0_0000_0000_0000
 abbrev pub minusTwo : Float
 minusTwo = bits 0xc000_0000_0000_0000
 
-pub constants : epsilon ∷ minusHalf ∷ minusTwo ∷ [] ≡ round binary64 false 1 (2 ^ 52) ∷ neg half ∷ neg two ∷ []
+pub constants : epsilon ∷ minusHalf ∷ minusTwo ∷ [] ≡ over 1 (2 ^ 52) ∷ neg half ∷ neg two ∷ []
 unfolding ofBits round neg
 constants = refl
 

@@ -9,8 +9,9 @@ use lib.ListN.{getD, length}
 use Rattle.math.specs.Basic.{add, mul, zero, two}
 use Rattle.math.specs.Ln.{lnOf}
 use Rattle.math.specs.Loops.{iter, until}
+use Rattle.math.specs.Matrix.{rows, entry}
 use Rattle.math.specs.Parts.{part}
-use Rattle.re_cov.specs.ReCov.{rows, entry, inverseOf, logDetOf}
+use Rattle.re_cov.specs.ReCov.{inverseOf, logDetOf}
 use Rattle.linalg.specs.Pair.{choleskyOf}
 use Rattle.linalg.specs.declared.pair.Matrix.{Matrix}
 use Rattle.linalg.specs.declared.pair.Matrix.the-variants.{Entries, None}

@@ -4,11 +4,12 @@ use mathlib.Core.Path.{_≡_, refl}
 use mathlib.Core.Bool.{Bool, false, cond, _&&_}
 use mathlib.Core.List.{List, [], _∷_}
 use lib.Dec.{eqb}
-use lib.Ieee.{Float, nan, binary64, round, ofBits}
+use lib.Ieee.{Float, nan, round, ofBits}
 use lib.Ieee as Ieee
 use lib.ListN.{getD, length}
 use Rattle.math.specs.Basic.{add, sub, mul, div, bits, one, two, maxOf}
 use Rattle.math.specs.Ln.{lnOf}
+use Rattle.math.specs.Rationals.{over}
 use Rattle.curves.specs.MeanFn.{nParamsOf}
 use Rattle.re_cov.specs.ReCov.{1e-12, logDetOf}
 use Rattle.state.specs.Penalized.{penaltySum}
@@ -24,7 +25,7 @@ abbrev pub twoPi : Float
 twoPi = bits 0x4019_21fb_5444_2d18
 
 -- twice the f64 that is nearest to pi
-pub two-pi : twoPi ≡ mul two (round binary64 false 314159265358979323846264338328 (10 ^ 29))
+pub two-pi : twoPi ≡ mul two (over 314159265358979323846264338328 (10 ^ 29))
 unfolding ofBits round Ieee.mul
 two-pi = refl
 

@@ -8,6 +8,8 @@ use lib.Ieee.{Float, inf, binary64, toBits}
 use lib.Ieee as Ieee
 use lib.ListN.{replicate}
 use Rattle.math.specs.Basic.{bits, zero, half, one, two}
+use Rattle.math.specs.Lists.{every}
+use Rattle.math.specs.Rationals.{num}
 use Rattle.curves.specs.MeanFn.{nParamsOf}
 use Rattle.curves.specs.Curve.{curve-computes}
 use Rattle.re_cov.specs.ReCov.{re-cov-computes}
@@ -16,7 +18,6 @@ use Rattle.quadrature.specs.Orders.{orderOf, capped, cappedOrder}
 use Rattle.quadrature.specs.Rules as Rules
 use Rattle.quadrature.specs.Sums.{logSumExp}
 use Rattle.problem.specs.Problem.{Problem, problemOf}
-use Rattle.problem.specs.Lists.{every}
 use Rattle.state.specs.Lists.{each}
 use Rattle.state.specs.Normal.{randomGradients}
 use Rattle.state.specs.Penalized.{squaresOf, penaltySum}
@@ -51,9 +52,6 @@ abbrev pub holds : Row → Bool
 holds r =
     let p = profileOf (r .problem) 0 (r .reml) (r .asked) in
     eqb (toBits binary64 (p .criterion)) (r .criterion) && eqb (toBits binary64 (p .sigma2)) (r .sigma2)
-
-abbrev pub num : ℕ → Float
-num n = Ieee.round binary64 false n 1
 
 -- the reading (0, 1) of curve 3 at 8, 0; three readings in group 0 and one of dose 0 in group 1
 abbrev pub noCurve : Problem

@@ -12,15 +12,17 @@ use lib.Ieee.{Float, nan, inf, lt, isNan, ofBits}
 use lib.ListN.{length, getD, replicate, length-replicate}
 use Rattle.math.specs.Basic as Basic
 use Rattle.math.specs.Basic.{mul, isFinite, absOf}
+use Rattle.math.specs.Lists.{every-at}
 use Rattle.math.specs.Order.{lt-self, above-num}
 use Rattle.math.specs.Numbers.{finite-number, add-number}
+use Rattle.math.specs.Rationals.{1e-8}
 use Rattle.curves.specs.MeanFn.{nParamsOf}
-use Rattle.block_solve.proofs.Sound.{Sound, every-at}
+use Rattle.block_solve.proofs.Sound.{Sound}
 use Rattle.problem.specs.Problem.{Problem, p, k}
 use Rattle.problem.specs.Valid.{Valid}
 use Rattle.state.specs.declared.State.{State}
 use Rattle.state.specs.Lists.{alter}
-use Rattle.state.specs.Constants.{threeFifty, 1e-6, 1e-8}
+use Rattle.state.specs.Constants.{threeFifty, 1e-6}
 use Rattle.state.specs.Project.{clampOf, clampAt, projectOf, groupClamp, slotAt, slotOf, projectSlot, projectGroups}
 use Rattle.state.specs.Trial.{hasScal, scalOf, onScal, adjusted, floored, startAt, started, startFrom, startOf, movedAt, movedOf, valuesTried, effectsTried, triedFrom, triedOf}
 use Rattle.fit.specs.Demand3.{Inside, InBounds}

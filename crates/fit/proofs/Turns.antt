@@ -11,7 +11,8 @@ use lib.ListN.{length, take, length-take}
 use Rattle.math.specs.Basic.{mul, one, half, isFinite}
 use Rattle.curves.specs.MeanFn.{nParamsOf}
 use Rattle.block_solve.specs.declared.normal.BlockNormal.{BlockNormal}
-use Rattle.block_solve.specs.Direction.{every, isSome, finiteOnly, isDirection, leftIn, finishedOf, solvedOf, directionOf, solve-fits}
+use Rattle.math.specs.Lists.{every}
+use Rattle.block_solve.specs.Direction.{isSome, finiteOnly, isDirection, leftIn, finishedOf, solvedOf, directionOf, solve-fits}
 use Rattle.problem.specs.Problem.{Problem, problemOf, p, k}
 use Rattle.state.specs.declared.State.{State}
 use Rattle.state.specs.Sized.{Effects, params-most}

@@ -1,21 +1,17 @@
 -- Document 01, 'The direction', for one or two equations: the solve, the inverse by unit columns and the Cholesky factor, each none or its numbers.
 use Prim.Native.Nat.{ℕ}
 use mathlib.Core.Bool.{Bool, true, false, cond}
-use mathlib.Core.List.{List, [], _∷_}
+use mathlib.Core.List.{List}
 use lib.Dec.{eqb}
 use lib.Ieee.{Float, nan, lt, eq}
-use lib.ListN.{getD}
 use Rattle.math.specs.Basic.{sub, mul, div, zero, one, absOf}
+use Rattle.math.specs.Matrix.{entry}
 use Rattle.math.specs.Sqrt.{sqrtOf}
 use Rattle.linalg.specs.declared.pair.Solved.{Solved}
 use Rattle.linalg.specs.declared.pair.Solved.the-variants.{Pair, None}
 use Rattle.linalg.specs.declared.pair.Matrix.{Matrix}
 use Rattle.linalg.specs.declared.pair.Matrix.the-variants.{Entries}
 use Rattle.linalg.specs.declared.pair.Matrix.the-variants as Matrices
-
--- entry i, j of rows
-abbrev pub entry : List (List Float) → ℕ → ℕ → Float
-entry m i j = getD (getD m i []) j nan
 
 -- the last row left is e y = t, the pivot's a x + b y = r
 abbrev pub lastOf : Float → Float → Float → Float → Float → Solved

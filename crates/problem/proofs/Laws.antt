@@ -1,4 +1,4 @@
--- A test of every element, element by element as the loops make it. Assumes nothing.
+-- The order of two lists, place by place as the loop tests it, and the first of two lists of faults. Assumes nothing.
 use Prim.Native.Nat.{ℕ, zero, suc, _+_, _≤_, _<_}
 use mathlib.Core.Path.{_≡_, refl, sym, ap, _∙_}
 use mathlib.Core.Bool.{Bool, true, false, not, _&&_}
@@ -10,23 +10,10 @@ use borrow.Author.Tests.{not-true, not-false}
 use lib.Ieee.{Float, nan, lt}
 use lib.ListN.{length, getD, drop, drop-of-length-le}
 use lib.Seq.{drop-cons}
-use Rattle.problem.specs.Lists.{every, inOrder}
+use Rattle.problem.specs.Lists.{inOrder}
 use Rattle.problem.specs.Faults.{firstFrom, firstFive, early, fitLater, searchLater, refusalOf, searchRefusalOf}
 use Rattle.problem.specs.Problem.{Problem, problemOf}
 use Rattle.problem.specs.Valid.{first-none, sized}
-
-module _ {A : Type 0} (t : A → Bool) (l : List A) (i : ℕ) where
-  pub every-stop : (d : A) → i < length l → t (getD l i d) ≡ false → every t (drop i l) ≡ false
-  unfolding every
-  every-stop d p h = rw (drop-cons l i d p, h)
-
-  pub every-go : (d : A) → i < length l → t (getD l i d) ≡ true → every t (drop (i + 1) l) ≡ every t (drop i l)
-  unfolding every
-  every-go d p h = rw (add-one i, drop-cons l i d p, h)
-
-  pub every-done : length l ≤ i → every t (drop i l) ≡ true
-  unfolding every
-  every-done p = rw (drop-of-length-le l p)
 
 module _ (xs ys : List Float) (i : ℕ) where
   pub order-stop : i < length xs → i < length ys → lt (getD ys i nan) (getD xs i nan) ≡ true → inOrder (drop i xs) (drop i ys) ≡ false

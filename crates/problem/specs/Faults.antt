@@ -6,8 +6,9 @@ use lib.Dec.{eqb, ltb}
 use lib.Ieee.{Float, inf, lt}
 use lib.ListN.{length, getD}
 use Rattle.math.specs.Basic.{isFinite}
+use Rattle.math.specs.Lists.{every}
 use Rattle.curves.specs.MeanFn.{nParamsOf}
-use Rattle.problem.specs.Lists.{every, inOrder}
+use Rattle.problem.specs.Lists.{inOrder}
 use Rattle.problem.specs.Problem.{Problem, p, k}
 
 -- a bound that a lower bound may be: neither NaN nor +infinity; an upper: neither NaN nor -infinity

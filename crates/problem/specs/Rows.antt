@@ -8,8 +8,9 @@ use lib.Ieee.{Float, nan, inf, lt}
 use lib.ListN.{length, replicate}
 use lib.Ieee as Ieee
 use Rattle.math.specs.Basic.{isFinite, bits, zero, one, two}
+use Rattle.math.specs.Lists.{every}
 use Rattle.curves.specs.MeanFn.{nParamsOf}
-use Rattle.problem.specs.Lists.{every, inOrder}
+use Rattle.problem.specs.Lists.{inOrder}
 use Rattle.problem.specs.Problem.{Problem, problemOf, p, k}
 use Rattle.problem.specs.Faults.{badCode, badReadings, badGroups, badEffects, badLengths, badTheta, badNumbers, badOrder, badOutputs, tooMany, firstFrom, refusalOf, searchRefusalOf}
 

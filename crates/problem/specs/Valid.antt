@@ -10,8 +10,9 @@ use lib.Ieee.{Float, nan, inf, fin, lt, isNan}
 use lib.ListN.{length, getD}
 use borrow.Author.Tests.{ltb-true, ltb-false, eqb-true, eqb-false, eq-eqb, not-false}
 use Rattle.math.specs.Basic.{isFinite}
+use Rattle.math.specs.Lists.{every, every-at}
 use Rattle.curves.specs.MeanFn.{nParamsOf}
-use Rattle.problem.specs.Lists.{every, inOrder, every-at, order-at}
+use Rattle.problem.specs.Lists.{inOrder, order-at}
 use Rattle.problem.specs.Problem.{Problem, p, k, atTheta}
 use Rattle.problem.specs.Faults.{isLower, isUpper, allBelow, badCode, badReadings, badGroups, badEffects, badLengths, badTheta, badNumbers, badOrder, badOutputs, tooMany, early, wrongLengths, wrongNumbers, wrongOrder, fitLater, searchLater, firstFrom, refusalOf, searchRefusalOf}
 

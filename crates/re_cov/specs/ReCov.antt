@@ -9,22 +9,15 @@ use lib.Ieee as Ieee
 use lib.ListN.{getD}
 use Rattle.math.specs.Basic.{add, sub, mul, div, bits, zero, one, two, maxOf}
 use Rattle.math.specs.Ln.{lnOf, ln-computes}
+use Rattle.math.specs.Matrix.{rows, entry}
+use Rattle.math.specs.Rationals.{1e-8}
 
--- the floors
-abbrev pub 1e-8 : Float
-1e-8 = bits 0x3e45_798e_e230_8c3a
-
+-- the floors, beside 1e-8
 abbrev pub 1e-12 : Float
 1e-12 = bits 0x3d71_9799_812d_ea11
 
 abbrev pub 1e-16 : Float
 1e-16 = bits 0x3c9c_d2b2_97d8_89bc
-
-abbrev pub rows : Float → Float → Float → Float → List (List Float)
-rows a b c d = (a ∷ b ∷ []) ∷ (c ∷ d ∷ []) ∷ []
-
-abbrev pub entry : List (List Float) → ℕ → ℕ → Float
-entry m i j = getD (getD m i []) j nan
 
 -- `lower_chol`: theta by columns, a diagonal entry not below 1e-8
 unfoldable pub lowerCholOf : ℕ → List Float → List (List Float)

@@ -1,10 +1,10 @@
--- The literals of fit.rs by their bit patterns, each proved to be its decimal.
-use Prim.Native.Nat.{ℕ, _^_}
+-- The literals of fit.rs by their bit patterns, beside 1e-8, each proved to be its decimal.
+use Prim.Native.Nat.{_^_}
 use mathlib.Core.Path.{_≡_, refl}
-use mathlib.Core.Bool.{false}
 use mathlib.Core.List.{[], _∷_}
-use lib.Ieee.{Float, round, binary64, ofBits}
+use lib.Ieee.{Float, round, ofBits}
 use Rattle.math.specs.Basic.{bits}
+use Rattle.math.specs.Rationals.{over}
 
 abbrev pub ten : Float
 ten = bits 0x4024_0000_0000_0000
@@ -27,14 +27,7 @@ abbrev pub 1e-4 : Float
 abbrev pub 1e-6 : Float
 1e-6 = bits 0x3eb0_c6f7_a0b5_ed8d
 
-abbrev pub 1e-8 : Float
-1e-8 = bits 0x3e45_798e_e230_8c3a
-
--- n / d
-abbrev over : ℕ → ℕ → Float
-over n d = round binary64 false n d
-
-pub decimals : ten ∷ threeTenths ∷ threeFifty ∷ 1e6 ∷ 1e-2 ∷ 1e-4 ∷ 1e-6 ∷ 1e-8 ∷ []
-    ≡ over 10 1 ∷ over 3 10 ∷ over 350 1 ∷ over (10 ^ 6) 1 ∷ over 1 100 ∷ over 1 (10 ^ 4) ∷ over 1 (10 ^ 6) ∷ over 1 (10 ^ 8) ∷ []
+pub decimals : ten ∷ threeTenths ∷ threeFifty ∷ 1e6 ∷ 1e-2 ∷ 1e-4 ∷ 1e-6 ∷ []
+    ≡ over 10 1 ∷ over 3 10 ∷ over 350 1 ∷ over (10 ^ 6) 1 ∷ over 1 100 ∷ over 1 (10 ^ 4) ∷ over 1 (10 ^ 6) ∷ []
 unfolding ofBits round
 decimals = refl

@@ -3,10 +3,11 @@ use Prim.Native.Nat.{ℕ, _^_}
 use mathlib.Core.Path.{_≡_, refl}
 use mathlib.Core.Bool.{true, false}
 use mathlib.Core.List.{List, [], _∷_}
-use lib.Ieee.{Float, round, binary64, inf, ofBits}
+use lib.Ieee.{Float, round, inf, ofBits}
 use lib.Ieee as Ieee
 use Rattle.math.specs.Basic.{absOf, maxOf, minOf, isFinite, one, half}
 use Rattle.math.specs.Loops.{iter}
+use Rattle.math.specs.Rationals.{over, minus, num}
 use Rattle.curves.specs.MeanFn.{evalWithReOf}
 use Rattle.curves.specs.Curve.{curve-computes}
 use Rattle.re_cov.specs.ReCov.{re-cov-computes}
@@ -23,15 +24,9 @@ unfoldable pub state-computes : Unit {0}
 unfolding curve-computes re-cov-computes iter absOf maxOf minOf isFinite Ieee.lt Ieee.eq Ieee.isNan evalWithReOf addReading accumulateOf timesOf addPriors priorOf each projectOf slotOf projectGroups squaresOf penaltySum sumOf fixedGradients randomGradients readingsOf blocksOf onScal started startFrom movedOf valuesTried effectsTried triedFrom largestOf stepOf lambdaOf lowered raised
 state-computes = tt
 
--- n, -n, 1 / 10 ^ n, and no bound
-abbrev num : ℕ → Float
-num n = round binary64 false n 1
-
-abbrev minus : ℕ → Float
-minus n = round binary64 true n 1
-
+-- 1 / 10 ^ n, and no bound
 abbrev tenth : ℕ → Float
-tenth n = round binary64 false 1 (10 ^ n)
+tenth n = over 1 (10 ^ n)
 
 abbrev low : Float
 low = inf true
@@ -43,14 +38,14 @@ high = inf false
 unfoldable pub starts : List (List Float)
 starts =
     startFrom 1 (num 8 ∷ num 2 ∷ num 0 ∷ []) (low ∷ low ∷ num 1 ∷ []) (high ∷ high ∷ num 10 ∷ []) .values
-    ∷ startFrom 1 (num 8 ∷ num 2 ∷ minus 1 ∷ []) (low ∷ low ∷ low ∷ []) (high ∷ high ∷ high ∷ []) .values
+    ∷ startFrom 1 (num 8 ∷ num 2 ∷ minus 1 1 ∷ []) (low ∷ low ∷ low ∷ []) (high ∷ high ∷ high ∷ []) .values
     ∷ startFrom 4 (num 8 ∷ num 2 ∷ num 0 ∷ num 0 ∷ []) (low ∷ low ∷ low ∷ low ∷ []) (high ∷ high ∷ high ∷ high ∷ []) .values
     ∷ startFrom 2 (num 8 ∷ num 2 ∷ num 0 ∷ []) (low ∷ low ∷ low ∷ []) (high ∷ high ∷ high ∷ []) .values
     ∷ []
 
 pub starts-are : starts
     ≡ (num 8 ∷ num 2 ∷ num 10 ∷ num 0 ∷ [])
-    ∷ (num 8 ∷ num 2 ∷ minus 1 ∷ num 0 ∷ [])
+    ∷ (num 8 ∷ num 2 ∷ minus 1 1 ∷ num 0 ∷ [])
     ∷ (num 8 ∷ num 2 ∷ num 0 ∷ num 350 ∷ [])
     ∷ (num 8 ∷ num 2 ∷ num 0 ∷ num 0 ∷ [])
     ∷ []
@@ -60,11 +55,11 @@ starts-are = refl
 -- in a trial the floor of scal comes before the projection
 unfoldable pub trials : List (List Float)
 trials =
-    valuesTried 1 (low ∷ low ∷ low ∷ []) (high ∷ high ∷ tenth 7 ∷ []) (num 1 ∷ num 0 ∷ minus 9 ∷ []) one (num 8 ∷ num 2 ∷ num 3 ∷ [])
-    ∷ valuesTried 4 (low ∷ low ∷ low ∷ low ∷ []) (high ∷ high ∷ high ∷ high ∷ []) (num 0 ∷ num 0 ∷ minus 9 ∷ minus 9 ∷ []) one (num 8 ∷ num 2 ∷ num 3 ∷ num 3 ∷ [])
+    valuesTried 1 (low ∷ low ∷ low ∷ []) (high ∷ high ∷ tenth 7 ∷ []) (num 1 ∷ num 0 ∷ minus 9 1 ∷ []) one (num 8 ∷ num 2 ∷ num 3 ∷ [])
+    ∷ valuesTried 4 (low ∷ low ∷ low ∷ low ∷ []) (high ∷ high ∷ high ∷ high ∷ []) (num 0 ∷ num 0 ∷ minus 9 1 ∷ minus 9 1 ∷ []) one (num 8 ∷ num 2 ∷ num 3 ∷ num 3 ∷ [])
     ∷ []
 
-pub trials-are : trials ≡ (num 9 ∷ num 2 ∷ tenth 7 ∷ []) ∷ (num 8 ∷ num 2 ∷ minus 6 ∷ tenth 6 ∷ []) ∷ []
+pub trials-are : trials ≡ (num 9 ∷ num 2 ∷ tenth 7 ∷ []) ∷ (num 8 ∷ num 2 ∷ minus 6 1 ∷ tenth 6 ∷ []) ∷ []
 unfolding state-computes trials ofBits round
 trials-are = refl
 
@@ -73,10 +68,10 @@ unfoldable pub projected : List (List Float)
 projected =
     projectGroups (0 ∷ []) 2 (low ∷ []) (high ∷ []) (num 18014398509481984 ∷ []) (num 1 ∷ num 3 ∷ [])
     ∷ projectGroups (0 ∷ []) 2 (num 0 ∷ []) (high ∷ []) (num 18014398509481984 ∷ []) (num 1 ∷ num 3 ∷ [])
-    ∷ projectGroups (1 ∷ 0 ∷ []) 2 (num 3 ∷ low ∷ []) (num 7 ∷ high ∷ []) (num 5 ∷ num 5 ∷ []) (num 9 ∷ num 9 ∷ minus 9 ∷ minus 9 ∷ [])
+    ∷ projectGroups (1 ∷ 0 ∷ []) 2 (num 3 ∷ low ∷ []) (num 7 ∷ high ∷ []) (num 5 ∷ num 5 ∷ []) (num 9 ∷ num 9 ∷ minus 9 1 ∷ minus 9 1 ∷ [])
     ∷ []
 
-pub projected-are : projected ≡ (num 1 ∷ num 3 ∷ []) ∷ (num 0 ∷ num 4 ∷ []) ∷ (num 9 ∷ num 2 ∷ minus 9 ∷ minus 2 ∷ []) ∷ []
+pub projected-are : projected ≡ (num 1 ∷ num 3 ∷ []) ∷ (num 0 ∷ num 4 ∷ []) ∷ (num 9 ∷ num 2 ∷ minus 9 1 ∷ minus 2 1 ∷ []) ∷ []
 unfolding state-computes projected ofBits round
 projected-are = refl
 
@@ -92,8 +87,8 @@ lambdas-are = refl
 unfoldable pub sizes : List Float
 sizes =
     penaltySum 1 3 (num 1 ∷ []) (num 2 ∷ num 3 ∷ num 4 ∷ [])
-    ∷ largestOf (num 1 ∷ minus 4 ∷ num 3 ∷ [])
-    ∷ stepOf half (num 1 ∷ minus 4 ∷ num 3 ∷ [])
+    ∷ largestOf (num 1 ∷ minus 4 1 ∷ num 3 ∷ [])
+    ∷ stepOf half (num 1 ∷ minus 4 1 ∷ num 3 ∷ [])
     ∷ []
 
 pub sizes-are : sizes ≡ num 29 ∷ num 4 ∷ num 2 ∷ []

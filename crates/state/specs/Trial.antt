@@ -7,11 +7,12 @@ use lib.Ieee.{Float, nan, lt}
 use lib.ListN.{getD, length, replicate}
 use Rattle.math.specs.Basic.{add, mul, zero, absOf, maxOf, minOf}
 use Rattle.math.specs.Loops.{iter}
+use Rattle.math.specs.Rationals.{1e-8}
 use Rattle.curves.specs.MeanFn.{nParamsOf}
 use Rattle.problem.specs.Problem.{Problem, k}
 use Rattle.state.specs.declared.State.{State}
 use Rattle.state.specs.Lists.{alter, each}
-use Rattle.state.specs.Constants.{ten, threeTenths, threeFifty, 1e6, 1e-2, 1e-4, 1e-6, 1e-8}
+use Rattle.state.specs.Constants.{ten, threeTenths, threeFifty, 1e6, 1e-2, 1e-4, 1e-6}
 use Rattle.state.specs.Project.{projectOf, projectGroups}
 
 -- ---- scal

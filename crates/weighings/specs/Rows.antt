@@ -5,14 +5,13 @@ use mathlib.Core.Bool.{false}
 use mathlib.Core.List.{List, [], _∷_, map, flatten}
 use lib.ListN.{getD, take, replicate}
 use lib.Ieee.{Float, nan, inf, round}
+use Rattle.math.specs.Rationals.{over, minus, num}
 use Rattle.curves.specs.MeanFn.{nParamsOf}
 use Rattle.curves.specs.Curve.{curveOf, curve-computes}
 use Rattle.quadrature.specs.declared.orders.Order.{Order}
 use Rattle.quadrature.specs.declared.orders.Order.the-variants.{None, Points}
 use Rattle.quadrature.specs.Orders.{orderOf}
 use Rattle.re_cov.specs.ReCov.{inverseOf, penaltyOf, re-cov-computes}
--- n / d, -n / d and n as floats
-use Rattle.re_cov.specs.Rows.{over, minus, num}
 use Rattle.self_start.specs.Start.{writtenOf, start-computes}
 
 -- a question to one definition

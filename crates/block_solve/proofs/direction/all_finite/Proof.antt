@@ -1,13 +1,13 @@
 -- Every component passes where those from i on pass, and all before did. Assumes nothing.
-use mathlib.Core.Path.{_≡_, refl, sym, ap, _∙_}
+use mathlib.Core.Path.{_≡_, refl, sym, _∙_}
 use Prim.Native.Nat.{_-_}
 use mathlib.Core.Bool.{true, false}
 use borrow.Author.Tests.{not-true, not-false}
 use native.Mathlib.Omega.{arith}
-use lib.ListN.{length, drop, drop-of-length-le}
+use lib.Ieee.{nan}
+use lib.ListN.{length, drop}
 use Rattle.math.specs.Basic.{isFinite}
-use Rattle.block_solve.specs.Direction.{every}
-use Rattle.block_solve.proofs.Laws.{every-stop, every-go}
+use Rattle.math.specs.Lists.{every, every-stop, every-go, every-done}
 use Rattle.block_solve.proofs.direction.all_finite.Statement.{statement}
 use Rattle.block_solve.proofs.direction.all_finite.Tie as tie
 use Rattle.block_solve.proofs.direction.all_finite.Reads as reads
@@ -40,16 +40,14 @@ loop-less c = omega arith
 
 loop-again : tie.Need-loop-again Inv-loop μ-loop
 loop-again c = let t = c .before .before .before .before .loop in
-    sym (every-go isFinite _ (t .i) (c .before .before .before .loop-test .taken) (sym (c .before .is-finite .ensures) ∙ not-false _ (c .if1 .left))) ∙ t .inv
+    every-go isFinite _ (t .i) nan (c .before .before .before .loop-test .taken) (sym (c .before .is-finite .ensures) ∙ not-false _ (c .if1 .left)) ∙ t .inv
 
 returns : tie.Need-returns Inv-loop μ-loop
 returns c = let t = c .before .before .before .before .loop in
-    sym (every-stop isFinite _ (t .i) (c .before .before .before .loop-test .taken) (sym (c .before .is-finite .ensures) ∙ not-true _ (c .if1 .taken))) ∙ t .inv
+    sym (every-stop isFinite _ (t .i) nan (c .before .before .before .loop-test .taken) (sym (c .before .is-finite .ensures) ∙ not-true _ (c .if1 .taken))) ∙ t .inv
 
 returns-2 : tie.Need-returns-2 Inv-loop μ-loop
-unfolding every
-returns-2 c = let l = c .before .before .before .args .l .now in
-    sym (ap (every isFinite) (drop-of-length-le l (c .loop-test .left))) ∙ c .before .loop .inv
+returns-2 c = sym (every-done isFinite _ (c .before .loop .i) (c .loop-test .left)) ∙ c .before .loop .inv
 
 pub all-finite-spec : {M : Type 1} → statement M
 all-finite-spec =

@@ -1,13 +1,14 @@
 -- The three returns are the three cases of the finished direction. Assumes nothing.
 use mathlib.Core.Path.{_≡_, refl, sym, ap, _∙_}
 use borrow.Author.Tests.{not-true, not-false}
-use Rattle.block_solve.specs.Direction.{every, isDirection, leftIn}
+use Rattle.block_solve.specs.Direction.{isDirection, leftIn}
 use borrow.Author.Needs.{needs}
 use Rattle.block_solve.proofs.direction.direction.Statement.{statement}
 use Rattle.block_solve.proofs.direction.direction.Tie as tie
 use Rattle.block_solve.proofs.direction.direction.Reads as reads
 use Rattle.block_solve.proofs.direction.direction.Lts as lts
 use Rattle.math.specs.Basic.{isFinite}
+use Rattle.math.specs.Lists.{every}
 use Rattle.block_solve.proofs.Laws.{finished-none, finished-singular, finished-solved, is-direction}
 use Rattle.linalg.proofs.elimination.solve.Reads as solve-reads
 use Rattle.block_solve.proofs.direction.all_finite.Reads as all-finite-reads

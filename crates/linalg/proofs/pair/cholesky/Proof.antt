@@ -1,7 +1,8 @@
 use mathlib.Core.Path.{sym, ap, _∙_}
 use borrow.Author.Tests.{eq-eqb, ne-eqb}
 use Rattle.math.specs.Loops.{pick-true, pick-false}
-use Rattle.linalg.specs.Pair.{firstColumn, secondRow, entry, choleskyOf}
+use Rattle.math.specs.Matrix.{entry}
+use Rattle.linalg.specs.Pair.{firstColumn, secondRow, choleskyOf}
 use borrow.Author.Needs.{needs}
 use Rattle.linalg.proofs.pair.cholesky.Statement.{statement}
 use Rattle.linalg.proofs.pair.cholesky.Tie as tie
