@@ -1,29 +1,38 @@
--- What it means that a text was written into a buffer.
-use Prim.Native.Nat.{ℕ, _+_, _≤_}
-use mathlib.Core.Path.{_≡_}
-use mathlib.Core.Bool.{false}
-use mathlib.Core.List.{List, _++_}
-use lib.ListN.{length, take}
-use Rattle.io.specs.Digits.{digits, Fewest}
+-- Text as a list of bytes, and what a buffer and a place in it are after a text is written there.
+use Prim.Native.Nat.{ℕ, zero, suc, _+_, _/_, _%_}
+use Prim.Native.Char.{code}
+use Prim.Native.String.{String, [] as ε, _∷_ as _▸_}
+use mathlib.Core.Bool.{Bool, true, false, cond}
+use mathlib.Core.List.{List, [], _∷_, _++_}
+use lib.Dec.{ltb}
+use lib.ListN.{length, set}
 use Rattle.figures.specs.declared.Place.{Place}
 
--- where the place after is not full: neither was the one before, and what is written is what was, and then the whole text
-pub record Whole (before : List ℕ) (p : Place) (text after : List ℕ) (q : Place) : Type 0 where
-  pub room : p .full ≡ false
-  pub end : q .at ≡ p .at + length text
-  pub fits : q .at ≤ length after
-  pub written : take (q .at) after ≡ take (p .at) before ++ text
+-- the bytes of a quoted text in ASCII
+abbrev pub bytes : String → List ℕ
+bytes ε = []
+bytes (c ▸ s) = code c ∷ bytes s
 
--- a buffer before and after a text is written at p, and the place after it. What was written stays. A text that does not
--- fit is told: the place is full, and stays so
-pub record Wrote (before : List ℕ) (p : Place) (text after : List ℕ) (q : Place) : Type 0 where
-  pub size : length after ≡ length before
-  pub on : p .at ≤ q .at
-  pub kept : take (p .at) after ≡ take (p .at) before
-  pub whole : q .full ≡ false → Whole before p text after q
+-- the place in an empty buffer
+abbrev pub start : Place
+start = record { at = 0; full = false }
 
--- the decimal digits of a number, as few as hold it
-pub record WroteNumber (before : List ℕ) (p : Place) (n : ℕ) (after : List ℕ) (q : Place) : Type 0 where
-  pub places : ℕ
-  pub fewest : Fewest 10 1 n places
-  pub wrote : Wrote before p (digits 10 places n) after q
+-- one byte: at the place, which moves on; where the buffer has no byte left, the place is full, and stays so
+unfoldable pub wroteByte : List ℕ → Place → ℕ → List ℕ × Place
+wroteByte l p b =
+    cond (p .full) (l, p)
+    (cond (ltb (p .at) (length l)) (set l (p .at) b, record { at = p .at + 1; full = false }) (l, record { at = p .at; full = true }))
+
+-- a text, byte by byte
+unfoldable pub wrote : List ℕ → Place → List ℕ → List ℕ × Place
+wrote l p [] = (l, p)
+wrote l p (b ∷ t) = wrote (wroteByte l p b .0) (wroteByte l p b .1) t
+
+-- the decimal digits of n, as few as hold it, at most so many
+unfoldable pub decimalDigits : ℕ → ℕ → List ℕ
+decimalDigits zero n = []
+decimalDigits (suc k) n = let more = decimalDigits k (n / 10) in cond (ltb n 10) ((48 + n) ∷ []) (more ++ ((48 + n % 10) ∷ []))
+
+-- a whole number below 2^64, which has at most twenty digits
+abbrev pub wholeText : ℕ → List ℕ
+wholeText n = decimalDigits 20 n

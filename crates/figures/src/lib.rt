@@ -3,7 +3,9 @@
 pub mod columns;
 pub mod floats;
 
-ghost use Rattle.figures.specs.Text.{Wrote, WroteNumber};
+ghost use mathlib.Core.Path.{_≡_};
+ghost use lib.Seq.{slice};
+ghost use Rattle.figures.specs.Text.{start, wrote, wroteByte, wholeText};
 
 // How many bytes of the buffer are written, and whether something did not fit.
 pub struct Place {
@@ -11,47 +13,61 @@ pub struct Place {
     pub full: bool,
 }
 
-pub fn begin() -> Place {
+pub fn begin() -> Place
+    ensures { λ r. ⌜ r ≡ start ⌝ }
+{
     Place { at: 0, full: false }
 }
 
-// The text after what is written; where it does not fit, nothing of it and the place is full.
-pub fn put(out: &mut [u8], p: Place, text: &[u8]) -> Place
-    ensures { λ r. ⌜ Wrote (now (out .entry)) p (now (text .entry)) (now (out .exit)) r ⌝ }
+fn byte(out: &mut [u8], p: Place, b: u8) -> Place
+    ensures { λ r. ⌜ (now (out .exit), r) ≡ wroteByte (now (out .entry)) p b ⌝ }
 {
     let at = p.at;
     if p.full {
         return p;
     }
-    if at > out.len() {
-        return Place { at: at, full: true };
+    if at < out.len() {
+        out[at] = b;
+        return Place {
+            at: at + 1,
+            full: false,
+        };
     }
-    if text.len() > out.len() - at {
-        return Place { at: at, full: true };
-    }
-    let n = bytes::copy(text, &mut out[at..]);
-    Place {
-        at: at + n,
-        full: false,
-    }
+    Place { at: at, full: true }
 }
 
-// A part of a text, by where it begins and ends. A part that the text does not have does not fit.
-pub fn part(out: &mut [u8], p: Place, text: &[u8], from: usize, to: usize) -> Place {
-    if from <= to {
-        if to <= text.len() {
-            return put(out, p, &text[from..to]);
-        }
+// The text after what is written, as much of it as fits.
+pub fn put(out: &mut [u8], p: Place, text: &[u8]) -> Place
+    ensures { λ r. ⌜ (now (out .exit), r) ≡ wrote (now (out .entry)) p (now (text .entry)) ⌝ }
+{
+    let mut q = p;
+    let mut i = 0;
+    while i < text.len() {
+        q = byte(out, q, text[i]);
+        i += 1;
     }
-    Place {
-        at: p.at,
-        full: true,
+    q
+}
+
+// A part of a text, by where it begins and ends, cut to what the text has.
+pub fn part(out: &mut [u8], p: Place, text: &[u8], from: usize, to: usize) -> Place
+    ensures { λ r. ⌜ (now (out .exit), r) ≡ wrote (now (out .entry)) p (slice from to (now (text .entry))) ⌝ }
+{
+    if from >= to {
+        return p;
     }
+    if to <= text.len() {
+        return put(out, p, &text[from..to]);
+    }
+    if from < text.len() {
+        return put(out, p, &text[from..]);
+    }
+    p
 }
 
 // A whole number in decimal digits.
 pub fn whole(out: &mut [u8], p: Place, n: u64) -> Place
-    ensures { λ r. ⌜ WroteNumber (now (out .entry)) p n (now (out .exit)) r ⌝ }
+    ensures { λ r. ⌜ (now (out .exit), r) ≡ wrote (now (out .entry)) p (wholeText n) ⌝ }
 {
     let mut text = [0u8; 20];
     let k = io::decimal(n, &mut text);

@@ -1,68 +1,64 @@
--- A text that fits is copied into the part from the place on; else the buffer is as it was. Assumes nothing.
-use Prim.Native.Nat.{ℕ, _-_}
-use mathlib.Core.Path.{refl, ap}
-use mathlib.Core.List.{List, _++_}
-use native.Mathlib.Omega.{arith}
-use borrow.Rule.Slice.PartMut.{postOf}
-use lib.ListN.{length, take}
+-- What is still to be written after each byte is the rest of the text. Assumes nothing.
+use Prim.Native.Nat.{_-_, _≤_}
+use mathlib.Core.Path.{_≡_, refl, sym, _∙_}
+use mathlib.Core.List.{[]}
 use borrow.Author.Needs.{needs}
-use Rattle.figures.specs.Laws.{stays, placed}
+use native.Mathlib.Omega.{arith}
+use lib.ListN.{length, drop, drop-of-length-le}
+use Rattle.figures.specs.Text.{wrote}
+use Rattle.figures.specs.Laws.{byte-next, wrote-none}
 use Rattle.figures.proofs.put.Statement.{statement}
 use Rattle.figures.proofs.put.Tie as tie
 
-returns : tie.Need-returns
-returns c = stays _ _ _ _ refl (c .if1 .taken)
+abbrev Inv-loop : tie.InvT-loop
+Inv-loop out₀ text q₀ i₀ out q i =
+    (i ≤ length text) × (length out ≡ length out₀) × (wrote out q (drop i text) ≡ wrote out₀ q₀ text)
 
-returns-2 : tie.Need-returns-2
-returns-2 c = stays _ _ _ _ refl refl
+abbrev μ-loop : tie.MeasureT-loop
+μ-loop out₀ text q₀ i₀ out q i = length text - i
 
-sub-if3 : tie.Need-sub-if3
-sub-if3 c = search needs
+loop-holds : tie.Need-loop-holds Inv-loop μ-loop
+loop-holds c = (omega arith, refl, refl)
 
-returns-3 : tie.Need-returns-3
-returns-3 c = stays _ _ _ _ refl refl
+shared-slice-read-byte : tie.Need-shared-slice-read-byte Inv-loop μ-loop
+shared-slice-read-byte c = search needs
 
-sub-copy : tie.Need-sub-copy
-sub-copy c = search needs
+byte-requires : tie.Need-byte-requires Inv-loop μ-loop
+byte-requires c κs = search needs
 
-part-copy-start : tie.Need-part-copy-start
-part-copy-start c = search needs
+add-i : tie.Need-add-i Inv-loop μ-loop
+add-i c = search needs
 
-part-copy-end : tie.Need-part-copy-end
-part-copy-end c = search needs
+loop-less : tie.Need-loop-less Inv-loop μ-loop
+loop-less c = search needs
 
-copy-requires : tie.Need-copy-requires
-copy-requires c κs = search needs
+loop-again : tie.Need-loop-again Inv-loop μ-loop
+loop-again c =
+    let w = c .before .before .before .before .before .before .loop in
+    (search needs, search needs, byte-next _ _ _ _ _ (w .i) (omega arith) (c .before .before .byte .ensures) ∙ w .inv .2)
 
-add-t8 : tie.Need-add-t8
-add-t8 c = search needs
-
-same-length : tie.Need-same-length
+same-length : tie.Need-same-length Inv-loop μ-loop
 same-length c = search needs
 
-returns-4 : tie.Need-returns-4
-returns-4 c =
-    let a = c .before .before .before .before .before .before .before .before .before .args in
-    let k = c .before .before .copy in
-    placed (a .out .now) (a .text .now) _ _ _ (a .p) _
-    (c .before .before .before .before .before .before .if1 .left)
-    (omega arith)
-    (omega (arith, k .ensures .0))
-    (same-length c)
-    (ap (λ (ys : List ℕ). take (a .p .at) (a .out .now) ++ (ys ++ postOf (a .p .at) (length (a .out .now) - a .p .at) (a .out .now))) (k .ensures .1))
+returns : tie.Need-returns Inv-loop μ-loop
+returns c =
+    let w = c .before .loop in
+    let a = c .before .before .before .before .args in
+    let h : length (a .text .now) ≤ w .i = omega arith in
+    let e : drop (w .i) (a .text .now) ≡ [] = drop-of-length-le (a .text .now) h in
+    sym (wrote-none _ _) ∙ rw⁻¹ e (w .inv .2)
 
 pub put-spec : {M : Type 1} → statement M
 put-spec =
     tie.close
     (tie.spec
-    returns
-    returns-2
-    sub-if3
-    returns-3
-    sub-copy
-    part-copy-start
-    part-copy-end
-    copy-requires
-    add-t8
+    Inv-loop
+    μ-loop
+    loop-holds
+    shared-slice-read-byte
+    byte-requires
+    add-i
+    loop-less
+    loop-again
     same-length
-    returns-4)
+    returns)
