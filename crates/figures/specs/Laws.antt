@@ -1,18 +1,15 @@
--- Laws of writing.
-use Prim.Native.Nat.{ℕ, zero, suc, _+_, _-_, _*_, _/_, _%_, _^_, _≤_, _<_, min}
+-- Laws of writing: one text and then another is one text; what fits stands in the buffer, and what does not is told.
+use Prim.Native.Nat.{ℕ, suc, _+_, _≤_, _<_}
 use mathlib.Core.Path.{_≡_, refl, sym, ap, _∙_}
-use mathlib.Core.Bool.{Bool, true, false, cond}
-use mathlib.Core.List.{List, [], _∷_, _++_, append-assoc}
-use native.Mathlib.Nat.{sub-zero, zero-sub, suc-sub-suc, pow-suc, one-le-pow, pow-le-pow-right, le-of-suc-le-suc, lt-of-not-le}
+use mathlib.Core.Bool.{true, false}
+use mathlib.Core.List.{List, [], _∷_, _++_, append-nil}
 use native.Mathlib.Numerals.{add-one}
 use native.Mathlib.Omega.{arith}
 use borrow.Author.Tests.{lt-ltb, le-ltb}
-use lib.Dec.{ltb}
-use lib.ListN.{length, take, drop, getD, set, length-take, drop-of-length-le}
-use lib.Seq.{drop-cons, take-nil, slice}
-use Rattle.io.specs.Digits.{glyph, digits, Fewest}
+use lib.ListN.{length, take, drop, getD, set, length-append}
+use lib.Seq.{drop-cons, append-snoc, set-append-seam}
 use Rattle.figures.specs.declared.Place.{Place}
-use Rattle.figures.specs.Text.{bytes, wroteByte, wrote, decimalDigits}
+use Rattle.figures.specs.Text.{bytes, start, wroteByte, wrote}
 
 -- a quoted text is the list that a literal of the code is
 literal : bytes "a\n" ≡ 97 ∷ 10 ∷ []
@@ -58,44 +55,51 @@ unfolding wrote
 byte-next l m p q t i h e =
     rw (add-one, drop-cons t i 0 h) (ap (λ (w : List ℕ × Place). wrote (w .0) (w .1) (drop (suc i) t)) e)
 
--- a part that is empty
-pub slice-none : (f t : ℕ) (l : List ℕ) → min t (length l) ≤ f → slice f t l ≡ []
-slice-none f t l h = drop-of-length-le (take t l) {i = f} (rw length-take h)
+-- a full place stays as it is, whatever is written
+pub full-stays : (l : List ℕ) (p : Place) (t : List ℕ) → p .full ≡ true → wrote l p t ≡ (l, p)
+unfolding wrote
+full-stays l p [] f = refl
+full-stays l p (b ∷ t) f = ap (λ (w : List ℕ × Place). wrote (w .0) (w .1) t) (sym (byte-full l p b f)) ∙ full-stays l p t f
 
--- a part, by its start and length
-pub slice-of : (f t : ℕ) (l : List ℕ) → take (t - f) (drop f l) ≡ slice f t l
-slice-of zero t l = rw sub-zero
-slice-of (suc f) zero l = rw zero-sub
-slice-of (suc f) (suc t) [] = take-nil (suc t - suc f)
-slice-of (suc f) (suc t) (b ∷ l) = rw suc-sub-suc (slice-of f t l)
+-- the place after so many bytes
+abbrev after : ℕ → Place
+after n = record { at = n; full = false }
 
-glyph-of : (d : ℕ) → d < 10 → glyph d ≡ 48 + d
-glyph-of d h = rw (lt-ltb d 10 h)
+-- one byte that fits
+one-more : (a b : List ℕ) (d c : ℕ) (t : List ℕ)
+    → wrote (a ++ (d ∷ b)) (after (length a)) (c ∷ t) ≡ wrote ((a ++ (c ∷ [])) ++ b) (after (length (a ++ (c ∷ [])))) t
+unfolding wrote
+one-more a b d c t =
+    let h : length a < length (a ++ (d ∷ b)) = rw length-append (omega arith) in
+    let e : length (a ++ (c ∷ [])) ≡ length a + 1 = length-append a (c ∷ []) in
+    let s : set (a ++ (d ∷ b)) (length a) c ≡ (a ++ (c ∷ [])) ++ b = set-append-seam a d b c ∙ sym (append-snoc a c b) in
+    rw e (rw⁻¹ s (ap (λ (w : List ℕ × Place). wrote (w .0) (w .1) t) (sym (byte-fits (a ++ (d ∷ b)) (after (length a)) c refl h))))
 
--- the fewest digits that hold a number are those of its definition
-pub digits-are : (k f n : ℕ) → k ≤ f → Fewest 10 1 n k → digits 10 k n ≡ decimalDigits f n
-unfolding decimalDigits
-digits-are zero f n h (one, below, first) = absurd (omega (arith, one))
-digits-are (suc k) zero n h w = absurd (omega (arith, h))
-digits-are (suc zero) (suc f) n h (one, below, first) =
-    let b : n < 10 = below in
-    let e : n % 10 ≡ n = omega arith in
-    rw (lt-ltb n 10 b, e, glyph-of n b)
-digits-are (suc (suc k)) (suc f) n h (one, below, first) =
-    let more : 10 ^ suc k ≤ n = rw (suc-sub-suc, sub-zero) at (first (omega arith)) in
-    let held : n < 10 ^ suc k * 10 = rw (pow-suc 10 (suc k)) at below in
-    let some : 1 ≤ 10 ^ k = one-le-pow k 10 (omega arith) in
-    let e : 10 ^ suc k ≡ 10 ^ k * 10 = pow-suc 10 k in
-    rw (le-ltb n 10 (omega arith), glyph-of (n % 10) (omega arith))
-    (ap (λ (t : List ℕ). t ++ ((48 + n % 10) ∷ []))
-    (digits-are (suc k) f (n / 10) (omega arith) (omega arith, omega arith, λ m. rw (suc-sub-suc, sub-zero) (omega arith))))
+-- a text that fits, after the bytes a
+fits-after : (a b t : List ℕ) → length t ≤ length b
+    → wrote (a ++ b) (after (length a)) t ≡ ((a ++ t) ++ drop (length t) b, after (length (a ++ t)))
+unfolding wrote
+fits-after a b [] h = rw append-nil
+fits-after a [] (c ∷ t) h = absurd (omega (arith, h))
+fits-after a (d ∷ b) (c ∷ t) h =
+    one-more a b d c t ∙ fits-after (a ++ (c ∷ [])) b t (omega (arith, h)) ∙ rw (append-snoc a c t)
 
--- a number below 2^64 has at most twenty digits
-pub twenty : (n k : ℕ) → n < 2 ^ 64 → Fewest 10 1 n k → k ≤ 20
-twenty n k h (one, below, first) =
-    le-of-suc-le-suc
-    (lt-of-not-le
-    (λ (over : 21 ≤ k).
-    let p : 10 ^ (k - 1) ≤ n = first (omega arith) in
-    let q : 10 ^ 20 ≤ 10 ^ (k - 1) = pow-le-pow-right (omega arith) {i = 20} {j = k - 1} (omega arith) in
-    omega arith))
+-- one that does not
+over-after : (a b t : List ℕ) → length b < length t
+    → wrote (a ++ b) (after (length a)) t ≡ (a ++ take (length b) t, record { at = length (a ++ b); full = true })
+unfolding wrote
+over-after a b [] h = absurd (omega (arith, h))
+over-after a [] (c ∷ t) h =
+    rw append-nil
+    (ap (λ (w : List ℕ × Place). wrote (w .0) (w .1) t) (sym (byte-over a (after (length a)) c refl (omega arith))) ∙ full-stays a _ t refl)
+over-after a (d ∷ b) (c ∷ t) h =
+    let e : length ((a ++ (c ∷ [])) ++ b) ≡ length (a ++ (d ∷ b)) = rw (append-snoc a c b, length-append a (c ∷ b), length-append a (d ∷ b)) in
+    one-more a b d c t ∙ over-after (a ++ (c ∷ [])) b t (omega (arith, h)) ∙ rw (e, append-snoc a c (take (length b) t))
+
+-- from the start: a text that fits stands at the buffer's start, the rest of the buffer is as it was, and the place is not full
+pub fits : (l t : List ℕ) → length t ≤ length l → wrote l start t ≡ (t ++ drop (length t) l, record { at = length t; full = false })
+fits l t h = fits-after [] l t h
+
+-- of a longer text the buffer holds what it can, and the place is full
+pub over : (l t : List ℕ) → length l < length t → wrote l start t ≡ (take (length l) t, record { at = length l; full = true })
+over l t h = over-after [] l t h

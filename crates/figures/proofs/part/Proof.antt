@@ -3,7 +3,8 @@ use mathlib.Core.Path.{_≡_, sym, _∙_}
 use native.Mathlib.Omega.{arith}
 use lib.ListN.{length, take}
 use lib.Seq.{take-length, take-all}
-use Rattle.figures.specs.Laws.{stays, slice-none, slice-of}
+use Rattle.figures.specs.Laws.{stays}
+use Rattle.figures.proofs.Parts.{slice-none, slice-of}
 use borrow.Author.Needs.{needs}
 use Rattle.figures.proofs.part.Statement.{statement}
 use Rattle.figures.proofs.part.Tie as tie

@@ -2,7 +2,7 @@
 use mathlib.Core.Path.{_≡_, _∙_}
 use lib.ListN.{take}
 use Rattle.figures.specs.Text.{wholeText}
-use Rattle.figures.specs.Laws.{digits-are, twenty}
+use Rattle.figures.proofs.Digits.{digits-are, twenty}
 use borrow.Author.Needs.{needs}
 use Rattle.figures.proofs.whole.Statement.{statement}
 use Rattle.figures.proofs.whole.Tie as tie
