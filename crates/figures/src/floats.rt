@@ -249,6 +249,13 @@ fn two_digits(out: &mut [u8], p: Place, n: u64) -> Place {
     whole(out, p, n)
 }
 
+// n / 10^6 with a power of ten, as `Scaled` has it.
+struct Digits {
+    n: u64,
+    power: u64,
+    small: bool,
+}
+
 // One power more.
 fn next_power(s: Scaled) -> Scaled {
     let n = s.power;
