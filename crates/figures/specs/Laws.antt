@@ -48,12 +48,14 @@ pub byte-over : (l : List ℕ) (p : Place) (b : ℕ) → p .full ≡ false → l
 unfolding wroteByte
 byte-over l p b f h = rw (f, le-ltb (p .at) (length l) h)
 
--- the next byte of a text, and then the rest
+-- one byte and then a text; the next byte of a text and then the rest
+pub byte-then : (l m : List ℕ) (p q : Place) (b : ℕ) (t : List ℕ) → (m, q) ≡ wroteByte l p b → wrote m q t ≡ wrote l p (b ∷ t)
+unfolding wrote
+byte-then l m p q b t e = ap (λ (w : List ℕ × Place). wrote (w .0) (w .1) t) e
+
 pub byte-next : (l m : List ℕ) (p q : Place) (t : List ℕ) (i : ℕ) → i < length t → (m, q) ≡ wroteByte l p (getD t i 0)
     → wrote m q (drop (i + 1) t) ≡ wrote l p (drop i t)
-unfolding wrote
-byte-next l m p q t i h e =
-    rw (add-one, drop-cons t i 0 h) (ap (λ (w : List ℕ × Place). wrote (w .0) (w .1) (drop (suc i) t)) e)
+byte-next l m p q t i h e = rw (add-one, drop-cons t i 0 h) (byte-then l m p q (getD t i 0) (drop (suc i) t) e)
 
 -- a full place stays as it is, whatever is written
 pub full-stays : (l : List ℕ) (p : Place) (t : List ℕ) → p .full ≡ true → wrote l p t ≡ (l, p)

@@ -1,54 +1,57 @@
 // Columns: text at the right or the left of a given width, spaces beside it. A text that is wider is written whole.
 use crate::Place;
+use crate::byte;
+use crate::lesser;
 use crate::put;
+ghost use Prim.Native.Nat.{_-_};
+ghost use mathlib.Core.Path.{_≡_};
+ghost use lib.Seq.{slice};
+ghost use Rattle.figures.specs.Text.{wrote};
+ghost use Rattle.figures.specs.Lines.{spaces, leftText, rightText};
 
-fn spaces(out: &mut [u8], p: Place, k: usize) -> Place {
-    let blank = [32u8; 64];
-    if k <= 64 {
-        return put(out, p, &blank[0..k]);
+// Spaces from n places up to the width.
+fn pad(out: &mut [u8], p: Place, width: usize, n: usize) -> Place
+    ensures { λ r. ⌜ (now (out .exit), r) ≡ wrote (now (out .entry)) p (spaces (width - n)) ⌝ }
+{
+    let mut q = p;
+    let mut i = n;
+    while i < width {
+        q = byte(out, q, 32);
+        i += 1;
     }
-    put(out, p, &blank)
+    q
 }
 
-fn less(width: usize, n: usize) -> usize {
-    if n < width {
-        return width - n;
-    }
-    0
-}
-
-pub fn right(out: &mut [u8], p: Place, width: usize, text: &[u8]) -> Place {
-    let q = spaces(out, p, less(width, text.len()));
+pub fn right(out: &mut [u8], p: Place, width: usize, text: &[u8]) -> Place
+    ensures { λ r. ⌜ (now (out .exit), r) ≡ wrote (now (out .entry)) p (rightText width (now (text .entry))) ⌝ }
+{
+    let q = pad(out, p, width, text.len());
     put(out, q, text)
 }
 
-pub fn left(out: &mut [u8], p: Place, width: usize, text: &[u8]) -> Place {
+pub fn left(out: &mut [u8], p: Place, width: usize, text: &[u8]) -> Place
+    ensures { λ r. ⌜ (now (out .exit), r) ≡ wrote (now (out .entry)) p (leftText width (now (text .entry))) ⌝ }
+{
     let q = put(out, p, text);
-    spaces(out, q, less(width, text.len()))
+    pad(out, q, width, text.len())
 }
 
-// The bytes of a cell up to a place, at the right of the width. A cell that is full fills the buffer too.
+// A part of a text, cut to what the text has, at the left of the width.
+pub fn part(out: &mut [u8], p: Place, width: usize, text: &[u8], from: usize, to: usize) -> Place
+    ensures { λ r. ⌜ (now (out .exit), r) ≡ wrote (now (out .entry)) p (leftText width (slice from to (now (text .entry)))) ⌝ }
+{
+    let end = lesser(to, text.len());
+    let at = lesser(from, end);
+    left(out, p, width, &text[at..end])
+}
+
+// The bytes of a cell up to a place, at the right of the width.
 fn cell(out: &mut [u8], p: Place, width: usize, from: &[u8], q: Place) -> Place {
     let n = q.at;
-    if q.full {
-        return Place {
-            at: p.at,
-            full: true,
-        };
-    }
     if n <= from.len() {
         return right(out, p, width, &from[0..n]);
     }
-    Place {
-        at: p.at,
-        full: true,
-    }
-}
-
-pub fn whole(out: &mut [u8], p: Place, width: usize, n: u64) -> Place {
-    let mut room = [0u8; 64];
-    let q = crate::whole(&mut room, crate::begin(), n);
-    cell(out, p, width, &room, q)
+    p
 }
 
 pub fn fixed(out: &mut [u8], p: Place, width: usize, x: f64, decimals: u64) -> Place {
@@ -61,17 +64,4 @@ pub fn figure(out: &mut [u8], p: Place, width: usize, x: f64) -> Place {
     let mut room = [0u8; 64];
     let q = crate::floats::figure(&mut room, crate::begin(), x);
     cell(out, p, width, &room, q)
-}
-
-// The bytes of a part of a text at the left of the width.
-pub fn part(out: &mut [u8], p: Place, width: usize, text: &[u8], from: usize, to: usize) -> Place {
-    if from <= to {
-        if to <= text.len() {
-            return left(out, p, width, &text[from..to]);
-        }
-    }
-    Place {
-        at: p.at,
-        full: true,
-    }
 }

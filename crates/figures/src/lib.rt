@@ -2,8 +2,10 @@
 // its caller asks once, at the end.
 pub mod columns;
 pub mod floats;
+pub mod words;
 
 ghost use mathlib.Core.Path.{_≡_};
+ghost use Prim.Native.Nat.{min};
 ghost use lib.Seq.{slice};
 ghost use Rattle.figures.specs.Text.{start, wrote, wroteByte, wholeText};
 
@@ -49,20 +51,22 @@ pub fn put(out: &mut [u8], p: Place, text: &[u8]) -> Place
     q
 }
 
+fn lesser(a: usize, b: usize) -> usize
+    ensures { λ r. ⌜ r ≡ min a b ⌝ }
+{
+    if a < b {
+        return a;
+    }
+    b
+}
+
 // A part of a text, by where it begins and ends, cut to what the text has.
 pub fn part(out: &mut [u8], p: Place, text: &[u8], from: usize, to: usize) -> Place
     ensures { λ r. ⌜ (now (out .exit), r) ≡ wrote (now (out .entry)) p (slice from to (now (text .entry))) ⌝ }
 {
-    if from >= to {
-        return p;
-    }
-    if to <= text.len() {
-        return put(out, p, &text[from..to]);
-    }
-    if from < text.len() {
-        return put(out, p, &text[from..]);
-    }
-    p
+    let end = lesser(to, text.len());
+    let at = lesser(from, end);
+    put(out, p, &text[at..end])
 }
 
 // A whole number in decimal digits.
