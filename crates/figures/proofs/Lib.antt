@@ -2,3 +2,7 @@ pub mod Digits
 pub mod Parts
 pub mod Lines
 mod FloatExamples
+mod FloatExamples
+mod NearestLaws
+mod FloatLaws
+mod FloatTexts

@@ -4,7 +4,7 @@ use mathlib.Core.Bool.{Bool, true, false, _&&_, cond}
 use mathlib.Core.List.{List, [], _∷_, _++_}
 use lib.Dec.{ltb, leb, eqb}
 use lib.IntN.{pos}
-use lib.Ieee.{Float, nan, inf, fin, binary64, up, down, lt, le, ofInt, ofBits, round}
+use lib.Ieee.{Float, nan, inf, fin, binary64, up, down, lt, le, eq, ofInt, ofBits, round}
 use lib.Ieee as Ieee
 use Rattle.math.specs.Basic.{bits, mul, div, absOf, one}
 use Rattle.math.specs.Basic as Basic
@@ -80,17 +80,19 @@ sevenDigits s =
     let n = nearestWhole (mul (s .mantissa) million) in
     cond (ltb n 10000000) (record { n = n; power = s .power; small = s .small }) (nextPower s)
 
--- a power with its sign and two digits, or three
-unfoldable pub exponentText : Digits → List ℕ
-exponentText d = bytes "e" ++ (cond (d .small) (bytes "-") (bytes "+") ++ lastDigits (cond (ltb (d .power) 100) 2 3) (d .power))
+-- a power with its sign and at least two digits
+unfoldable pub markText : ℕ → Bool → List ℕ
+markText e small = cond (ltb e 10) (cond small (bytes "e-0") (bytes "e+0")) (cond small (bytes "e-") (bytes "e+"))
 
 unfoldable pub poweredText : Float → Digits → List ℕ
-poweredText x d = signedText x (d .n) 6 ++ exponentText d
+poweredText x d = signedText x (d .n) 6 ++ (markText (d .power) (d .small) ++ wholeText (d .power))
 
 unfoldable pub scientificText : Float → List ℕ
 scientificText nan = bytes "nan"
 scientificText (inf s) = cond s (bytes "-inf") (bytes "inf")
-scientificText (fin s m e) = cond (eqb m 0) (bytes "0") (poweredText (fin s m e) (sevenDigits (inTens (fin false m e))))
+scientificText (fin s m e) =
+    let x = fin s m e in
+    cond (eq x Basic.zero) (bytes "0") (poweredText x (sevenDigits (inTens (absOf x))))
 
 -- ---- with so many decimals, and to seven significant digits
 
@@ -137,15 +139,15 @@ unfoldable pub decimalsOf : Float → ℕ
 decimalsOf x = missed x powers
 
 unfoldable pub sevenSignificant : Float → ℕ × ℕ
-sevenSignificant a = shortened (nearestWhole (mul a (tens (decimalsOf a)))) (decimalsOf a)
+sevenSignificant x = let d = decimalsOf (absOf x) in shortened (nearestWhole (mul (absOf x) (tens d))) d
 
 -- as R prints it: without zeros at the end, in scientific notation where x is very small or large
 unfoldable pub figureText : Float → List ℕ
 figureText x =
-    let s = sevenSignificant (absOf x) in
+    let s = sevenSignificant x in
     cond (le little (absOf x) && lt (absOf x) large) (signedText x (s .0) (s .1)) (scientificText x)
 
 -- what computing a text unfolds
 unfoldable pub floats-computes : Unit {0}
-unfolding decimalDigits until ofBits round Ieee.mul Ieee.div lt le ofInt absOf nearestWhole lastDigits fractionText pointText shortened signText signedText divided multiplied inTens nextPower sevenDigits exponentText poweredText scientificText tens fixedText powers missed decimalsOf sevenSignificant figureText
+unfolding decimalDigits until ofBits round Ieee.mul Ieee.div lt le eq ofInt absOf nearestWhole lastDigits fractionText pointText shortened signText signedText divided multiplied inTens nextPower sevenDigits markText poweredText scientificText tens fixedText powers missed decimalsOf sevenSignificant figureText
 floats-computes = tt

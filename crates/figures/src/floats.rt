@@ -4,35 +4,34 @@
 use crate::Place;
 use crate::put;
 use crate::whole;
-ghost use Prim.Native.Nat.{_≤_};
+ghost use mathlib.Core.Path.{_≡_};
+ghost use Prim.Native.Nat.{_≤_, _/_, _^_};
+ghost use lib.ListN.{length};
+ghost use Rattle.math.specs.Basic.{mul, absOf};
+ghost use Rattle.figures.specs.Text.{wrote};
+ghost use Rattle.figures.specs.Floats.{nearestWhole, lastDigits, shortened, decimalsOf, tens, sevenSignificant};
+ghost use Rattle.figures.specs.Floats.{divided, multiplied, inTens, sevenDigits};
+ghost use Rattle.figures.specs.Floats.{pointText, signedText, markText, poweredText, fixedText, figureText, scientificText};
 
-// Ten to a power up to 15; past it, 10^15.
-fn power(d: u64) -> u64
-    ensures { λ r. ⌜ 1 ≤ r ⌝ }
+// |x| * 10^d.
+fn shifted(x: f64, d: u64) -> f64
+    requires { ⌜ d ≤ 15 ⌝ }
+    ensures { λ r. ⌜ r ≡ mul (absOf x) (tens d) ⌝ }
 {
-    match d {
-        0 => 1,
-        1 => 10,
-        2 => 100,
-        3 => 1000,
-        4 => 10000,
-        5 => 100000,
-        6 => 1000000,
-        7 => 10000000,
-        8 => 100000000,
-        9 => 1000000000,
-        10 => 10000000000,
-        11 => 100000000000,
-        12 => 1000000000000,
-        13 => 10000000000000,
-        14 => 100000000000000,
-        _ => 1000000000000000,
+    let mut power = 1u64;
+    let mut i = 0u64;
+    while i < d {
+        power = power * 10;
+        i += 1;
     }
+    math::abs(x) * std::num::nearest_u64_to_f64(power)
 }
 
 // The whole number nearest to m, half way up; 0 where m is below 0 or not below 2^64. A float of 2^53 or more is whole.
-pub fn nearest(m: f64) -> u64 {
-    if m > -1.0 {
+pub fn nearest(m: f64) -> u64
+    ensures { λ r. ⌜ r ≡ nearestWhole m ⌝ }
+{
+    if m > 0.0 {
         if m < 18446744073709551616.0 {
             let n = std::num::truncating_f64_to_u64(m);
             if n >= 9007199254740992 {
@@ -47,8 +46,11 @@ pub fn nearest(m: f64) -> u64 {
     0
 }
 
-// The last digits of n, as many as text has places.
-fn last_digits(n: u64, text: &mut [u8]) {
+// The last digits of n, as many as text has places, and the number before them.
+fn last_digits(n: u64, text: &mut [u8]) -> u64
+    ensures { λ r. ⌜ now (text .exit) ≡ lastDigits (length (now (text .entry))) n ⌝ }
+    ensures { λ r. ⌜ r ≡ n / 10 ^ length (now (text .entry)) ⌝ }
+{
     let mut i = text.len();
     let mut rest = n;
     while i > 0 {
@@ -56,84 +58,65 @@ fn last_digits(n: u64, text: &mut [u8]) {
         text[i] = 48 + (rest % 10) as u8;
         rest = rest / 10;
     }
-}
-
-// The point and the last digits of n, as many as the room has places.
-fn fraction(out: &mut [u8], p: Place, n: u64, room: &mut [u8]) -> Place {
-    last_digits(n, room);
-    let q = put(out, p, b".");
-    put(out, q, room)
+    rest
 }
 
 // n / 10^d with d decimals.
-fn point(out: &mut [u8], p: Place, n: u64, d: u64) -> Place {
-    let q = whole(out, p, n / power(d));
+fn point(out: &mut [u8], p: Place, n: u64, d: u64) -> Place
+    requires { ⌜ d ≤ 15 ⌝ }
+    ensures { λ r. ⌜ (now (out .exit), r) ≡ wrote (now (out .entry)) p (pointText n d) ⌝ }
+{
+    let mut room = [46u8; 16];
+    let k = d as usize + 1;
+    let w = last_digits(n, &mut room[1..k]);
+    let q = whole(out, p, w);
     if d == 0 {
         return q;
     }
-    if d > 15 {
-        return q;
-    }
-    let mut room = [48u8; 16];
-    let k = d as usize;
-    fraction(out, q, n, &mut room[0..k])
+    put(out, q, &room[..k])
 }
 
 // `-` before the digits of a number below 0 that does not round to 0.
-fn sign(out: &mut [u8], p: Place, x: f64, n: u64) -> Place {
+fn signed(out: &mut [u8], p: Place, x: f64, n: u64, d: u64) -> Place
+    requires { ⌜ d ≤ 15 ⌝ }
+    ensures { λ r. ⌜ (now (out .exit), r) ≡ wrote (now (out .entry)) p (signedText x n d) ⌝ }
+{
     if x < 0.0 {
         if n > 0 {
-            return put(out, p, b"-");
+            let q = put(out, p, b"-");
+            return point(out, q, n, d);
         }
     }
-    p
+    point(out, p, n, d)
 }
 
-// x with so many decimals, at most 15; in scientific notation where the digits would be more than 15, and nan, inf and -inf.
-pub fn fixed(out: &mut [u8], p: Place, x: f64, decimals: u64) -> Place {
-    let m = math::abs(x) * std::num::nearest_u64_to_f64(power(decimals));
-    if m < 1e15 {
-        let n = nearest(m);
-        let q = sign(out, p, x, n);
-        return point(out, q, n, decimals);
+// x with so many decimals; in scientific notation where the decimals or the digits would be more than 15, and nan, inf and -inf.
+pub fn fixed(out: &mut [u8], p: Place, x: f64, decimals: u64) -> Place
+    ensures { λ r. ⌜ (now (out .exit), r) ≡ wrote (now (out .entry)) p (fixedText x decimals) ⌝ }
+{
+    if decimals <= 15 {
+        let m = shifted(x, decimals);
+        if m < 1e15 {
+            return signed(out, p, x, nearest(m), decimals);
+        }
     }
     scientific(out, p, x)
 }
 
-// How many decimals give x, of at least 1e-5, seven significant digits.
-pub fn decimals(x: f64) -> u64 {
-    if x >= 1e3 {
-        return decimals_of_large(x);
-    }
-    if x >= 1e2 {
-        return 4;
-    }
-    if x >= 1e1 {
-        return 5;
-    }
-    if x >= 1.0 {
-        return 6;
-    }
-    if x >= 1e-1 {
-        return 7;
-    }
-    if x >= 1e-2 {
-        return 8;
-    }
-    if x >= 1e-3 {
-        return 9;
-    }
-    if x >= 1e-4 { 10 } else { 11 }
-}
+const POWERS: [f64; 11] = [1e6, 1e5, 1e4, 1e3, 1e2, 1e1, 1.0, 1e-1, 1e-2, 1e-3, 1e-4];
 
-fn decimals_of_large(x: f64) -> u64 {
-    if x >= 1e6 {
-        return 0;
+// How many decimals give x, of at least 1e-5, seven significant digits.
+pub fn decimals(x: f64) -> u64
+    ensures { λ r. ⌜ r ≡ decimalsOf x ⌝ }
+{
+    let mut i = 0;
+    while i < 11 {
+        if x >= POWERS[i] {
+            return i as u64;
+        }
+        i += 1;
     }
-    if x >= 1e5 {
-        return 1;
-    }
-    if x >= 1e4 { 2 } else { 3 }
+    11
 }
 
 // A number of decimals without the zeros at its end.
@@ -142,33 +125,38 @@ struct Short {
     d: u64,
 }
 
-fn shorter(n: u64, d: u64) -> Short {
-    let mut s = Short { n: n, d: d };
-    while s.d > 0 {
-        if s.n % 10 != 0 {
-            return s;
+fn shorter(n: u64, d: u64) -> Short
+    ensures { λ r. ⌜ (r .n, r .d) ≡ shortened n d ⌝ }
+{
+    let mut m = n;
+    let mut k = d;
+    while k > 0 {
+        if m % 10 != 0 {
+            return Short { n: m, d: k };
         }
-        s = Short {
-            n: s.n / 10,
-            d: s.d - 1,
-        };
+        m = m / 10;
+        k -= 1;
     }
-    s
+    Short { n: m, d: 0 }
+}
+
+// |x| to seven significant digits.
+fn seven_significant(x: f64) -> Short
+    ensures { λ r. ⌜ (r .n, r .d) ≡ sevenSignificant x ⌝ }
+{
+    let d = decimals(math::abs(x));
+    shorter(nearest(shifted(x, d)), d)
 }
 
 // x to seven significant digits, as R prints it: without zeros at the end, in scientific notation where x is very small or large.
-pub fn figure(out: &mut [u8], p: Place, x: f64) -> Place {
+pub fn figure(out: &mut [u8], p: Place, x: f64) -> Place
+    ensures { λ r. ⌜ (now (out .exit), r) ≡ wrote (now (out .entry)) p (figureText x) ⌝ }
+{
     let a = math::abs(x);
-    if a == 0.0 {
-        return put(out, p, b"0");
-    }
     if a >= 1e-5 {
         if a < 1e15 {
-            let d = decimals(a);
-            let n = nearest(a * std::num::nearest_u64_to_f64(power(d)));
-            let q = sign(out, p, x, n);
-            let s = shorter(n, d);
-            return point(out, q, s.n, s.d);
+            let s = seven_significant(x);
+            return signed(out, p, x, s.n, s.d);
         }
     }
     scientific(out, p, x)
@@ -182,7 +170,9 @@ pub struct Scaled {
     pub small: bool,
 }
 
-fn scaled_down(x: f64) -> Scaled {
+fn scaled_down(x: f64) -> Scaled
+    ensures { λ r. ⌜ r ≡ divided 400 0 x ⌝ }
+{
     let mut m = x;
     let mut e = 0u64;
     while e < 400 {
@@ -198,12 +188,14 @@ fn scaled_down(x: f64) -> Scaled {
     }
     Scaled {
         mantissa: m,
-        power: e,
+        power: 400,
         small: false,
     }
 }
 
-fn scaled_up(x: f64) -> Scaled {
+fn scaled_up(x: f64) -> Scaled
+    ensures { λ r. ⌜ r ≡ multiplied 400 0 x ⌝ }
+{
     let mut m = x;
     let mut e = 0u64;
     while e < 400 {
@@ -219,79 +211,89 @@ fn scaled_up(x: f64) -> Scaled {
     }
     Scaled {
         mantissa: m,
-        power: e,
+        power: 400,
         small: true,
     }
 }
 
-pub fn in_tens(x: f64) -> Scaled {
+pub fn in_tens(x: f64) -> Scaled
+    ensures { λ r. ⌜ r ≡ inTens x ⌝ }
+{
     if x < 1.0 {
         return scaled_up(x);
     }
     scaled_down(x)
 }
 
-// A power with its sign and at least two digits.
-fn exponent(out: &mut [u8], p: Place, small: bool, power: u64) -> Place {
-    if small {
-        let q = put(out, p, b"e-");
-        return two_digits(out, q, power);
-    }
-    let q = put(out, p, b"e+");
-    two_digits(out, q, power)
-}
-
-fn two_digits(out: &mut [u8], p: Place, n: u64) -> Place {
-    if n < 10 {
-        let q = put(out, p, b"0");
-        return whole(out, q, n);
-    }
-    whole(out, p, n)
-}
-
-// n / 10^6 with a power of ten, as `Scaled` has it.
+// n / 10^6 with a power of ten.
 struct Digits {
     n: u64,
     power: u64,
     small: bool,
 }
 
-// One power more.
-fn next_power(s: Scaled) -> Scaled {
-    let n = s.power;
+// A mantissa to seven digits; one that rounds to 10 is 1 with the next power.
+fn seven_digits(s: Scaled) -> Digits
+    requires { ⌜ s .power ≤ 400 ⌝ }
+    ensures { λ r. ⌜ r ≡ sevenDigits s ⌝ }
+{
+    let n = nearest(s.mantissa * 1e6);
+    let e = s.power;
+    if n < 10000000 {
+        return Digits {
+            n: n,
+            power: e,
+            small: s.small,
+        };
+    }
     if s.small {
-        if n > 0 {
-            return Scaled {
-                mantissa: 1.0,
-                power: n - 1,
-                small: n > 1,
+        if e > 1 {
+            return Digits {
+                n: 1000000,
+                power: e - 1,
+                small: true,
             };
         }
-    }
-    if n < 1000 {
-        return Scaled {
-            mantissa: 1.0,
-            power: n + 1,
+        return Digits {
+            n: 1000000,
+            power: 0,
             small: false,
         };
     }
-    s
-}
-
-// The digits of a mantissa to seven places; one that rounds to 10 is 1 with the next power.
-fn mantissa(out: &mut [u8], p: Place, x: f64, s: Scaled) -> Place {
-    let n = nearest(s.mantissa * 1e6);
-    let q = sign(out, p, x, n);
-    if n >= 10000000 {
-        let t = next_power(s);
-        let r = put(out, q, b"1.000000");
-        return exponent(out, r, t.small, t.power);
+    Digits {
+        n: 1000000,
+        power: e + 1,
+        small: false,
     }
-    let r = point(out, q, n, 6);
-    exponent(out, r, s.small, s.power)
 }
 
-pub fn scientific(out: &mut [u8], p: Place, x: f64) -> Place {
+// What stands before the digits of a power, which are at least two.
+fn mark(out: &mut [u8], p: Place, power: u64, small: bool) -> Place
+    ensures { λ r. ⌜ (now (out .exit), r) ≡ wrote (now (out .entry)) p (markText power small) ⌝ }
+{
+    if power < 10 {
+        if small {
+            return put(out, p, b"e-0");
+        }
+        return put(out, p, b"e+0");
+    }
+    if small {
+        return put(out, p, b"e-");
+    }
+    put(out, p, b"e+")
+}
+
+fn powered(out: &mut [u8], p: Place, x: f64, d: Digits) -> Place
+    ensures { λ r. ⌜ (now (out .exit), r) ≡ wrote (now (out .entry)) p (poweredText x d) ⌝ }
+{
+    let q = signed(out, p, x, d.n, 6);
+    let r = mark(out, q, d.power, d.small);
+    whole(out, r, d.power)
+}
+
+pub fn scientific(out: &mut [u8], p: Place, x: f64) -> Place
+    ensures { λ r. ⌜ (now (out .exit), r) ≡ wrote (now (out .entry)) p (scientificText x) ⌝ }
+{
     if x != x {
         return put(out, p, b"nan");
     }
@@ -299,7 +301,7 @@ pub fn scientific(out: &mut [u8], p: Place, x: f64) -> Place {
         return put(out, p, b"0");
     }
     if math::is_finite(x) {
-        return mantissa(out, p, x, in_tens(math::abs(x)));
+        return powered(out, p, x, seven_digits(in_tens(math::abs(x))));
     }
     if x < 0.0 {
         return put(out, p, b"-inf");
