@@ -3,6 +3,7 @@ pub mod Parts
 pub mod Lines
 mod FloatExamples
 mod FloatExamples
+mod FloatMeaning
 mod NearestLaws
 mod FloatLaws
 mod FloatTexts
