@@ -27,7 +27,7 @@ unfoldable pub lastDigits : ℕ → ℕ → List ℕ
 lastDigits zero n = []
 lastDigits (suc k) n = (48 + n / 10 ^ k % 10) ∷ lastDigits k n
 
--- n / 10 ^ d with d decimals, and without the zeros at their end
+-- n / 10 ^ d with d decimals: the digits before the point, and the point and d digits where there are any
 unfoldable pub fractionText : ℕ → ℕ → List ℕ
 fractionText n zero = []
 fractionText n (suc d) = bytes "." ++ lastDigits (suc d) n
@@ -35,11 +35,12 @@ fractionText n (suc d) = bytes "." ++ lastDigits (suc d) n
 unfoldable pub pointText : ℕ → ℕ → List ℕ
 pointText n d = wholeText (n / 10 ^ d) ++ fractionText n d
 
+-- the same number as another n and d, without zeros at the end of its decimals
 unfoldable pub shortened : ℕ → ℕ → ℕ × ℕ
 shortened n zero = (n, 0)
 shortened n (suc d) = let r = shortened (n / 10) d in cond (eqb (n % 10) 0) r (n, suc d)
 
--- the same with the sign of x, but 0 has none
+-- n / 10 ^ d with the sign of x; 0 has none
 unfoldable pub signText : Float → ℕ → List ℕ
 signText x n = cond (lt x Basic.zero && ltb 0 n) (bytes "-") []
 
@@ -48,8 +49,8 @@ signedText x n d = signText x n ++ pointText n d
 
 -- ---- scientific notation
 
--- x of 1 or more by divisions by ten until it is below 10, and x below 1 by products until it is 1 or more, at most 400; each
--- is rounded
+-- x as about m * 10 ^ e, or m / 10 ^ e where it is small, with m at least 1 and below 10: x of 1 or more is divided by ten until it is below 10,
+-- x below 1 multiplied until it is 1 or more. Each step is rounded, and there are at most 400
 abbrev pub ten : Float
 ten = bits 0x4024_0000_0000_0000
 
@@ -80,13 +81,14 @@ sevenDigits s =
     let n = nearestWhole (mul (s .mantissa) million) in
     cond (ltb n 10000000) (record { n = n; power = s .power; small = s .small }) (nextPower s)
 
--- a power with its sign and at least two digits
+-- the power has a sign and at least two digits
 unfoldable pub markText : ℕ → Bool → List ℕ
 markText e small = cond (ltb e 10) (cond small (bytes "e-0") (bytes "e+0")) (cond small (bytes "e-") (bytes "e+"))
 
 unfoldable pub poweredText : Float → Digits → List ℕ
 poweredText x d = signedText x (d .n) 6 ++ (markText (d .power) (d .small) ++ wholeText (d .power))
 
+-- nan, inf, -inf, 0, or a mantissa and its power
 unfoldable pub scientificText : Float → List ℕ
 scientificText nan = bytes "nan"
 scientificText (inf s) = cond s (bytes "-inf") (bytes "inf")
@@ -106,8 +108,8 @@ large = bits 0x430c_6bf5_2634_0000
 abbrev pub little : Float
 little = bits 0x3ee4_f8b5_88e3_68f1
 
--- at most 15 decimals and 15 digits, else in scientific notation. The product is rounded, so the last digit can be off where x lies within that
--- rounding of a half
+-- the digits are those of the whole number nearest to the product |x| * 10 ^ d, which is rounded. More than 15 decimals or digits: in scientific
+-- notation
 unfoldable pub fixedText : Float → ℕ → List ℕ
 fixedText x d =
     let m = mul (absOf x) (tens d) in
@@ -138,6 +140,7 @@ missed x (t ∷ ts) = let r = missed x ts in cond (le t x) 0 (suc r)
 unfoldable pub decimalsOf : Float → ℕ
 decimalsOf x = missed x powers
 
+-- |x| to seven significant digits, as n / 10 ^ d
 unfoldable pub sevenSignificant : Float → ℕ × ℕ
 sevenSignificant x = let d = decimalsOf (absOf x) in shortened (nearestWhole (mul (absOf x) (tens d))) d
 
