@@ -2,7 +2,6 @@ pub mod Digits
 pub mod Parts
 pub mod Lines
 mod FloatExamples
-mod FloatExamples
 mod FloatMeaning
 mod NearestLaws
 mod FloatLaws

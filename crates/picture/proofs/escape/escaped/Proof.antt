@@ -1,25 +1,36 @@
--- The measure is the bytes that are left; each keeps the length of the buffer. Assumes nothing.
-use mathlib.Core.Path.{_≡_}
-use Prim.Native.Nat.{_-_}
+-- Each turn writes the next byte, from the part's begin to its end or the text's. Assumes nothing.
+use Prim.Native.Nat.{_-_, _≤_}
+use mathlib.Core.Path.{_≡_, refl}
+use mathlib.Core.List.{[], _++_}
+use native.Mathlib.Omega.{arith}
+use lib.ListN.{length, getD}
+use Rattle.math.specs.Loops.{span}
+use Rattle.figures.specs.Text.{wrote}
+use Rattle.picture.specs.Escape.{escapedByte, escapedText}
+use Rattle.picture.proofs.Laws.{part-none, part-more, part-all}
 use borrow.Author.Needs.{needs}
-use lib.ListN.{length}
 use Rattle.picture.proofs.escape.escaped.Statement.{statement}
 use Rattle.picture.proofs.escape.escaped.Tie as tie
 
 abbrev Inv-loop : tie.InvT-loop
-Inv-loop out₀ text p₀ i₀ out p i = length out ≡ length out₀
+Inv-loop out₀ text from to p₀ i₀ end out p i =
+    (from ≤ i) × (i - from ≤ end - from) × (length out ≡ length out₀)
+    × ((out, p) ≡ wrote out₀ p₀ (span (λ k t. t ++ escapedByte (getD text k 0)) from i []))
 
 abbrev μ-loop : tie.MeasureT-loop
-μ-loop out₀ text p₀ i₀ out p i = length text - i
+μ-loop out₀ text from to p₀ i₀ end out p i = end - i
+
+lesser-requires : tie.Need-lesser-requires Inv-loop μ-loop
+lesser-requires c κs = tt
 
 loop-holds : tie.Need-loop-holds Inv-loop μ-loop
-loop-holds c = search needs
+loop-holds c = (omega arith, omega arith, refl, part-none _ _ _ _)
 
 shared-slice-read-byte : tie.Need-shared-slice-read-byte Inv-loop μ-loop
 shared-slice-read-byte c = search needs
 
 byte-requires : tie.Need-byte-requires Inv-loop μ-loop
-byte-requires c κs = search needs
+byte-requires c κs = tt
 
 add-i : tie.Need-add-i Inv-loop μ-loop
 add-i c = search needs
@@ -28,13 +39,14 @@ loop-less : tie.Need-loop-less Inv-loop μ-loop
 loop-less c = search needs
 
 loop-again : tie.Need-loop-again Inv-loop μ-loop
-loop-again c = search needs
+loop-again c = (omega arith, omega arith, search needs, part-more _ _ _ _ _ _ _ _ _ (c .before .before .before .before .before .before .loop .inv .0) (c .before .before .before .before .before .before .loop .inv .3) (c .before .before .byte .ensures))
 
 same-length : tie.Need-same-length Inv-loop μ-loop
 same-length c = search needs
 
 returns : tie.Need-returns Inv-loop μ-loop
-returns c = search needs
+unfolding escapedText
+returns c = rw (c .before .before .lesser .ensures) at (part-all _ _ _ (c .before .before .lesser .result) _ _ _ _ (c .before .loop .inv .3) (omega arith))
 
 pub escaped-spec : {M : Type 1} → statement M
 escaped-spec =
@@ -42,6 +54,7 @@ escaped-spec =
     (tie.spec
     Inv-loop
     μ-loop
+    lesser-requires
     loop-holds
     shared-slice-read-byte
     byte-requires
