@@ -2,10 +2,13 @@
 use crate::words::curve_of;
 use crate::words::name_of;
 use crate::words::place_of;
-use check::same;
+use cases::same::same_bytes;
 use figures::Place;
-use figures::put;
+use figures::words::word;
+ghost use mathlib.Core.Path.{_≡_};
 ghost use Prim.Native.Nat.{_≤_};
+ghost use Rattle.figures.specs.Text.{wrote};
+ghost use Rattle.refit_report.specs.Options.{nothingAsked, faultyAt, digitOf, smallOf, endsInSvg, awaitedOf, laterOptionOf, optionOf, fileOf, optionFrom, nextOf, lastOf, optionFault};
 
 // What is asked for. `awaits` is the option whose word comes next: 1 curve, 2 effect, 3 quadrature, 4 svg. The file
 // and the picture are numbers of words; 0 is none. `fault` is 0, or the fault of word `at`.
@@ -24,7 +27,9 @@ pub struct Options {
     pub svg: usize,
 }
 
-pub fn none() -> Options {
+pub fn none() -> Options
+    ensures { λ r. ⌜ r ≡ nothingAsked ⌝ }
+{
     Options {
         fault: 0,
         at: 0,
@@ -41,19 +46,23 @@ pub fn none() -> Options {
     }
 }
 
-fn faulty(mut o: Options, fault: u64, at: usize) -> Options {
+fn faulty(mut o: Options, fault: u64, at: usize) -> Options
+    ensures { λ r. ⌜ r ≡ faultyAt o fault at ⌝ }
+{
     o.fault = fault;
     o.at = at;
     o
 }
 
 // A word that does not fit the room for words.
-pub fn too_long(o: Options, i: usize) -> Options {
+pub fn too_long(o: Options, i: usize) -> Options
+    ensures { λ r. ⌜ r ≡ faultyAt o 9 i ⌝ }
+{
     faulty(o, 9, i)
 }
 
 fn digit(b: u8) -> u64
-    ensures { λ r. ⌜ r ≤ 100 ⌝ }
+    ensures { λ r. ⌜ (r ≡ digitOf b) × (r ≤ 100) ⌝ }
 {
     if b < 48 {
         return 100;
@@ -62,7 +71,9 @@ fn digit(b: u8) -> u64
 }
 
 // A whole number of one or two digits; 100 or more for any other word.
-fn small(word: &[u8]) -> u64 {
+fn small(word: &[u8]) -> u64
+    ensures { λ r. ⌜ r ≡ smallOf (now (word .entry)) ⌝ }
+{
     if word.len() == 1 {
         return digit(word[0]);
     }
@@ -72,16 +83,20 @@ fn small(word: &[u8]) -> u64 {
     100
 }
 
-fn ends_in_svg(word: &[u8]) -> bool {
+fn ends_in_svg(word: &[u8]) -> bool
+    ensures { λ r. ⌜ r ≡ endsInSvg (now (word .entry)) ⌝ }
+{
     let n = word.len();
     if n < 5 {
         return false;
     }
-    same(&word[n - 4..], b".svg")
+    same_bytes(&word[n - 4..], b".svg")
 }
 
 // The word that an option awaits.
-fn awaited(mut o: Options, word: &[u8], i: usize) -> Options {
+fn awaited(mut o: Options, word: &[u8], i: usize) -> Options
+    ensures { λ r. ⌜ r ≡ awaitedOf o (now (word .entry)) i ⌝ }
+{
     let option = o.awaits;
     o.awaits = 0;
     if option == 1 {
@@ -113,38 +128,44 @@ fn awaited(mut o: Options, word: &[u8], i: usize) -> Options {
     faulty(o, 8, i)
 }
 
-// The option that a word is: 1 to 4 await a word, 5 reml, 6 ml, 7 help, 0 another word.
-fn option_of(word: &[u8]) -> u64 {
-    if same(word, b"--curve") {
+// The option that a word is: 1 to 4 await a word, 5 reml, 6 ml, 7 and 8 help, 0 another word.
+fn option_of(word: &[u8]) -> u64
+    ensures { λ r. ⌜ r ≡ optionOf (now (word .entry)) ⌝ }
+{
+    if same_bytes(word, b"--curve") {
         return 1;
     }
-    if same(word, b"--effect") {
+    if same_bytes(word, b"--effect") {
         return 2;
     }
-    if same(word, b"--quadrature") {
+    if same_bytes(word, b"--quadrature") {
         return 3;
     }
-    if same(word, b"--svg") {
+    if same_bytes(word, b"--svg") {
         return 4;
     }
-    short_option_of(word)
+    later_option_of(word)
 }
 
-fn short_option_of(word: &[u8]) -> u64 {
-    if same(word, b"--reml") {
+fn later_option_of(word: &[u8]) -> u64
+    ensures { λ r. ⌜ r ≡ laterOptionOf (now (word .entry)) ⌝ }
+{
+    if same_bytes(word, b"--reml") {
         return 5;
     }
-    if same(word, b"--ml") {
+    if same_bytes(word, b"--ml") {
         return 6;
     }
-    if same(word, b"--help") {
+    if same_bytes(word, b"--help") {
         return 7;
     }
-    if same(word, b"help") { 7 } else { 0 }
+    if same_bytes(word, b"help") { 8 } else { 0 }
 }
 
 // A word that is no option: the file's name.
-fn file(mut o: Options, word: &[u8], i: usize) -> Options {
+fn file(mut o: Options, word: &[u8], i: usize) -> Options
+    ensures { λ r. ⌜ r ≡ fileOf o (now (word .entry)) i ⌝ }
+{
     if word.len() == 0 {
         return faulty(o, 1, i);
     }
@@ -158,15 +179,11 @@ fn file(mut o: Options, word: &[u8], i: usize) -> Options {
     o
 }
 
-// One word more, the i-th.
-pub fn next(mut o: Options, word: &[u8], i: usize) -> Options {
-    if o.fault != 0 {
-        return o;
-    }
-    if o.awaits != 0 {
-        return awaited(o, word, i);
-    }
-    match option_of(word) {
+// A word that is this option.
+fn option_from(option: u64, mut o: Options, word: &[u8], i: usize) -> Options
+    ensures { λ r. ⌜ r ≡ optionFrom option o (now (word .entry)) i ⌝ }
+{
+    match option {
         0 => file(o, word, i),
         5 => {
             o.reml = true;
@@ -180,7 +197,11 @@ pub fn next(mut o: Options, word: &[u8], i: usize) -> Options {
             o.help = true;
             o
         }
-        option => {
+        8 => {
+            o.help = true;
+            o
+        }
+        _ => {
             o.awaits = option;
             o.at = i;
             o
@@ -188,8 +209,23 @@ pub fn next(mut o: Options, word: &[u8], i: usize) -> Options {
     }
 }
 
+// One word more, the i-th.
+pub fn next(o: Options, word: &[u8], i: usize) -> Options
+    ensures { λ r. ⌜ r ≡ nextOf o (now (word .entry)) i ⌝ }
+{
+    if o.fault != 0 {
+        return o;
+    }
+    if o.awaits != 0 {
+        return awaited(o, word, i);
+    }
+    option_from(option_of(word), o, word, i)
+}
+
 // After the last word.
-pub fn last(mut o: Options) -> Options {
+pub fn last(mut o: Options) -> Options
+    ensures { λ r. ⌜ r ≡ lastOf o ⌝ }
+{
     if o.fault != 0 {
         return o;
     }
@@ -208,37 +244,13 @@ pub fn last(mut o: Options) -> Options {
 }
 
 // A fault of the command line in words.
-pub fn fault(out: &mut [u8], p: Place, number: u64) -> Place {
-    match number {
-        1 => put(out, p, b"no such option; 'refit help' tells them"),
-        2 => put(
-            out,
-            p,
-            b"this option wants a word after it; 'refit help' tells which",
-        ),
-        3 => put(
-            out,
-            p,
-            b"no such curve; there are SSlogis, SSasymp, SSmicmen and SSfpl",
-        ),
-        4 => put(
-            out,
-            p,
-            b"no curve has a value of this name; 'refit help' tells the names",
-        ),
-        5 => put(
-            out,
-            p,
-            b"the effect is not a value of the curve; 'refit help' tells the names",
-        ),
-        6 => put(
-            out,
-            p,
-            b"the order of quadrature is a whole number from 0 to 11",
-        ),
-        7 => put(out, p, b"a second file; one file is read at a time"),
-        8 => put(out, p, b"the picture's name must end in .svg"),
-        9 => put(out, p, b"a word of the command line that is too long"),
-        _ => put(out, p, b"a fault without a meaning"),
-    }
+pub fn fault(out: &mut [u8], p: Place, number: u64) -> Place
+    ensures { λ r. ⌜ (now (out .exit), r) ≡ wrote (now (out .entry)) p (optionFault number) ⌝ }
+{
+    word(
+        out,
+        p,
+        b"\nno such option; 'refit help' tells them\nthis option wants a word after it; 'refit help' tells which\nno such curve; there are SSlogis, SSasymp, SSmicmen and SSfpl\nno curve has a value of this name; 'refit help' tells the names\nthe effect is not a value of the curve; 'refit help' tells the names\nthe order of quadrature is a whole number from 0 to 11\na second file; one file is read at a time\nthe picture's name must end in .svg\na word of the command line that is too long\n",
+        number,
+    )
 }

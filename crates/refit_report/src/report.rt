@@ -5,7 +5,6 @@ use crate::tables::readings;
 use crate::words::curve;
 use crate::words::name;
 use crate::words::refusal;
-use crate::words::value_name;
 use figures::Place;
 use figures::columns::left;
 use figures::floats::figure;
@@ -54,7 +53,7 @@ fn curve_line(out: &mut [u8], p: Place, code: u64) -> Place {
 fn effect_line(out: &mut [u8], p: Place, o: Options) -> Place {
     let p = item(out, p, b"effect");
     let p = put(out, p, b"each canister has its own ");
-    let p = name(out, p, value_name(o.code, o.place));
+    let p = name(out, p, o.code, o.place);
     put(out, p, b"\n")
 }
 
@@ -107,7 +106,7 @@ fn number_line(out: &mut [u8], p: Place, label: &[u8], x: f64) -> Place {
 // A value of the curve and its name.
 fn value(out: &mut [u8], p: Place, code: u64, i: usize, x: f64) -> Place {
     let mut room = [0u8; 8];
-    let q = name(&mut room, figures::begin(), value_name(code, i));
+    let q = name(&mut room, figures::begin(), code, i);
     let n = q.at;
     if n <= 8 {
         return number_line(out, p, &room[0..n], x);
@@ -218,7 +217,7 @@ fn spread(out: &mut [u8], p: Place, o: Options, x: f64) -> Place {
     }
     let p = number(out, p, b"canisters'", x);
     let p = put(out, p, b"   spread of their ");
-    let p = name(out, p, value_name(o.code, o.place));
+    let p = name(out, p, o.code, o.place);
     put(out, p, b": theta times the root of sigma2\n")
 }
 

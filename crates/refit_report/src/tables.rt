@@ -1,6 +1,5 @@
 // The two tables of a report: each canister's own curve, and each reading beside its curve.
 use crate::words::name;
-use crate::words::value_name;
 use figures::Place;
 use figures::columns;
 use figures::floats::decimals;
@@ -28,7 +27,7 @@ fn canister(out: &mut [u8], p: Place, text: &[u8], names: &[u64], g: usize) -> P
 
 fn head(out: &mut [u8], p: Place, code: u64, i: usize) -> Place {
     let mut room = [0u8; 8];
-    let q = name(&mut room, figures::begin(), value_name(code, i));
+    let q = name(&mut room, figures::begin(), code, i);
     let n = q.at;
     if n > 8 {
         return p;

@@ -1,58 +1,56 @@
 // Names and meanings in words. The values of the curves have the names that R's users know, each with a number here.
-use check::same;
+use cases::same::same_bytes;
 use figures::Place;
 use figures::put;
+use figures::whole;
+use figures::words::word;
+ghost use mathlib.Core.Path.{_≡_};
+ghost use mathlib.Core.List.{[], _∷_};
+ghost use lib.ListN.{getD};
+ghost use Rattle.figures.specs.Text.{wrote};
+ghost use Rattle.refit_report.specs.Words.{nameOf, laterNameOf, curveOf, namesOf, placeOf, nameText, curveText, refusalText, faultText, lineFaultText};
 
 // The number of a value's name: 1 Asym, 2 xmid, 3 scal, 4 R0, 5 lrc, 6 Vm, 7 K, 8 A, 9 B; 0 for any other word.
-pub fn name_of(word: &[u8]) -> u64 {
-    if same(word, b"Asym") {
+pub fn name_of(word: &[u8]) -> u64
+    ensures { λ r. ⌜ r ≡ nameOf (now (word .entry)) ⌝ }
+{
+    if same_bytes(word, b"Asym") {
         return 1;
     }
-    if same(word, b"xmid") {
+    if same_bytes(word, b"xmid") {
         return 2;
     }
-    if same(word, b"scal") {
+    if same_bytes(word, b"scal") {
         return 3;
     }
-    if same(word, b"R0") {
+    if same_bytes(word, b"R0") {
         return 4;
     }
-    if same(word, b"lrc") {
+    later_name_of(word)
+}
+
+fn later_name_of(word: &[u8]) -> u64
+    ensures { λ r. ⌜ r ≡ laterNameOf (now (word .entry)) ⌝ }
+{
+    if same_bytes(word, b"lrc") {
         return 5;
     }
-    second_name_of(word)
-}
-
-fn second_name_of(word: &[u8]) -> u64 {
-    if same(word, b"Vm") {
+    if same_bytes(word, b"Vm") {
         return 6;
     }
-    if same(word, b"K") {
+    if same_bytes(word, b"K") {
         return 7;
     }
-    if same(word, b"A") {
+    if same_bytes(word, b"A") {
         return 8;
     }
-    if same(word, b"B") { 9 } else { 0 }
-}
-
-pub fn name(out: &mut [u8], p: Place, number: u64) -> Place {
-    match number {
-        1 => put(out, p, b"Asym"),
-        2 => put(out, p, b"xmid"),
-        3 => put(out, p, b"scal"),
-        4 => put(out, p, b"R0"),
-        5 => put(out, p, b"lrc"),
-        6 => put(out, p, b"Vm"),
-        7 => put(out, p, b"K"),
-        8 => put(out, p, b"A"),
-        9 => put(out, p, b"B"),
-        _ => put(out, p, b"?"),
-    }
+    if same_bytes(word, b"B") { 9 } else { 0 }
 }
 
 // The number of the name of value i of a curve, 0 where it has no such value.
-pub fn value_name(code: u64, i: usize) -> u64 {
+pub fn value_name(code: u64, i: usize) -> u64
+    ensures { λ r. ⌜ r ≡ getD (namesOf code) i 0 ⌝ }
+{
     match code {
         1 => pick(i, 1, 2, 3, 0),
         2 => pick(i, 1, 4, 5, 0),
@@ -62,7 +60,9 @@ pub fn value_name(code: u64, i: usize) -> u64 {
     }
 }
 
-fn pick(i: usize, a: u64, b: u64, c: u64, d: u64) -> u64 {
+fn pick(i: usize, a: u64, b: u64, c: u64, d: u64) -> u64
+    ensures { λ r. ⌜ r ≡ getD (a ∷ b ∷ c ∷ d ∷ []) i 0 ⌝ }
+{
     match i {
         0 => a,
         1 => b,
@@ -72,8 +72,10 @@ fn pick(i: usize, a: u64, b: u64, c: u64, d: u64) -> u64 {
     }
 }
 
-// The place among a curve's values of the one with this name; 4 where it has none.
-pub fn place_of(code: u64, number: u64) -> usize {
+// The place among a curve's values of the first with this name; 4 where it has none.
+pub fn place_of(code: u64, number: u64) -> usize
+    ensures { λ r. ⌜ r ≡ placeOf code number ⌝ }
+{
     if value_name(code, 0) == number {
         return 0;
     }
@@ -87,96 +89,78 @@ pub fn place_of(code: u64, number: u64) -> usize {
 }
 
 // The code of a curve's name, 0 for any other word.
-pub fn curve_of(word: &[u8]) -> u64 {
-    if same(word, b"SSlogis") {
+pub fn curve_of(word: &[u8]) -> u64
+    ensures { λ r. ⌜ r ≡ curveOf (now (word .entry)) ⌝ }
+{
+    if same_bytes(word, b"SSlogis") {
         return 1;
     }
-    if same(word, b"SSasymp") {
+    if same_bytes(word, b"SSasymp") {
         return 2;
     }
-    if same(word, b"SSmicmen") {
+    if same_bytes(word, b"SSmicmen") {
         return 3;
     }
-    if same(word, b"SSfpl") { 4 } else { 0 }
+    if same_bytes(word, b"SSfpl") { 4 } else { 0 }
+}
+
+// The name of value i of a curve.
+pub fn name(out: &mut [u8], p: Place, code: u64, i: usize) -> Place
+    ensures { λ r. ⌜ (now (out .exit), r) ≡ wrote (now (out .entry)) p (nameText code i) ⌝ }
+{
+    word(
+        out,
+        p,
+        b"?\nAsym\nxmid\nscal\nR0\nlrc\nVm\nK\nA\nB\n",
+        value_name(code, i),
+    )
 }
 
 // A curve's name and its equation.
-pub fn curve(out: &mut [u8], p: Place, code: u64) -> Place {
-    match code {
-        1 => put(
-            out,
-            p,
-            b"SSlogis: grams = Asym / (1 + exp((xmid - dose) / scal))",
-        ),
-        2 => put(
-            out,
-            p,
-            b"SSasymp: grams = Asym + (R0 - Asym) * exp(-exp(lrc) * dose)",
-        ),
-        3 => put(out, p, b"SSmicmen: grams = Vm * dose / (K + dose)"),
-        _ => put(
-            out,
-            p,
-            b"SSfpl: grams = A + (B - A) / (1 + exp((xmid - dose) / scal))",
-        ),
-    }
+pub fn curve(out: &mut [u8], p: Place, code: u64) -> Place
+    ensures { λ r. ⌜ (now (out .exit), r) ≡ wrote (now (out .entry)) p (curveText code) ⌝ }
+{
+    word(
+        out,
+        p,
+        b"\nSSlogis: grams = Asym / (1 + exp((xmid - dose) / scal))\nSSasymp: grams = Asym + (R0 - Asym) * exp(-exp(lrc) * dose)\nSSmicmen: grams = Vm * dose / (K + dose)\nSSfpl: grams = A + (B - A) / (1 + exp((xmid - dose) / scal))\n",
+        code,
+    )
 }
 
 // What a number means by which the library refuses.
-pub fn refusal(out: &mut [u8], p: Place, number: u64) -> Place {
-    match number {
-        1 => put(out, p, b"no such curve"),
-        2 => put(
-            out,
-            p,
-            b"no readings, more than 512, or lists of unequal lengths",
-        ),
-        3 => put(out, p, b"no canisters or more than 32"),
-        4 => put(out, p, b"a reading of a canister that is not there"),
-        5 => put(out, p, b"the effect is not a value of the curve"),
-        6 => put(
-            out,
-            p,
-            b"a list of starts, bounds or theta has a wrong length",
-        ),
-        7 => put(
-            out,
-            p,
-            b"a reading, a start value or theta is not a finite number, or a bound is none",
-        ),
-        8 => put(out, p, b"a lower bound above its upper one"),
-        9 => put(out, p, b"a list for the answer has a wrong length"),
-        10 => put(out, p, b"too many rounds or narrowings, or two effects"),
-        _ => put(out, p, b"a number without a meaning"),
-    }
+pub fn refusal(out: &mut [u8], p: Place, number: u64) -> Place
+    ensures { λ r. ⌜ (now (out .exit), r) ≡ wrote (now (out .entry)) p (refusalText number) ⌝ }
+{
+    word(
+        out,
+        p,
+        b"\nno such curve\nno readings, more than 512, or lists of unequal lengths\nno canisters or more than 32\na reading of a canister that is not there\nthe effect is not a value of the curve\na list of starts, bounds or theta has a wrong length\na reading, a start value or theta is not a finite number, or a bound is none\na lower bound above its upper one\na list for the answer has a wrong length\ntoo many rounds or narrowings, or two effects\n",
+        number,
+    )
 }
 
 // What is wrong with a line of the text.
-pub fn fault(out: &mut [u8], p: Place, number: u64) -> Place {
-    match number {
-        1 => put(out, p, b"not three fields: dose, grams, canister"),
-        2 => put(out, p, b"the dose is not a decimal number"),
-        3 => put(out, p, b"the grams are not a decimal number"),
-        4 => put(out, p, b"a number of more than 15 significant digits"),
-        5 => put(out, p, b"a number whose exponent is out of range"),
-        6 => put(
-            out,
-            p,
-            b"the canister's name is empty, longer than 32 bytes, or has other signs than a name may have",
-        ),
-        7 => put(out, p, b"more than 512 readings"),
-        8 => put(out, p, b"more than 32 canisters"),
-        9 => put(out, p, b"there are no readings"),
-        _ => put(out, p, b"a fault without a meaning"),
-    }
+fn fault(out: &mut [u8], p: Place, number: u64) -> Place
+    ensures { λ r. ⌜ (now (out .exit), r) ≡ wrote (now (out .entry)) p (faultText number) ⌝ }
+{
+    word(
+        out,
+        p,
+        b"\nnot three fields: dose, grams, canister\nthe dose is not a decimal number\nthe grams are not a decimal number\na number of more than 15 significant digits\na number whose exponent is out of range\nthe canister's name is empty, longer than 32 bytes, or has other signs than a name may have\nmore than 512 readings\nmore than 32 canisters\nthere are no readings\n",
+        number,
+    )
 }
 
 // The fault of a line with its number; line 0 is none.
-pub fn line_fault(out: &mut [u8], p: Place, line: u64, number: u64) -> Place {
+pub fn line_fault(out: &mut [u8], p: Place, line: u64, number: u64) -> Place
+    ensures { λ r. ⌜ (now (out .exit), r) ≡ wrote (now (out .entry)) p (lineFaultText line number) ⌝ }
+{
     if line == 0 {
         return fault(out, p, number);
     }
-    let p = figures::with_whole(out, p, b"line ", line);
+    let p = put(out, p, b"line ");
+    let p = whole(out, p, line);
     let p = put(out, p, b": ");
     fault(out, p, number)
 }
