@@ -1,13 +1,14 @@
 -- Laws of writing: one text and then another is one text; what fits stands in the buffer, and what does not is told.
 use Prim.Native.Nat.{ℕ, suc, _+_, _≤_, _<_}
-use mathlib.Core.Path.{_≡_, refl, sym, ap, _∙_}
-use mathlib.Core.Bool.{true, false}
+use mathlib.Core.Path.{_≡_, refl, sym, ap, subst, _∙_}
+use mathlib.Core.Bool.{Bool, true, false}
 use mathlib.Core.List.{List, [], _∷_, _++_, append-nil}
 use native.Mathlib.Numerals.{add-one}
 use native.Mathlib.Omega.{arith}
-use borrow.Author.Tests.{lt-ltb, le-ltb}
+use borrow.Author.Tests.{lt-ltb, le-ltb, ltb-true, ltb-false}
+use lib.Dec.{ltb}
 use lib.ListN.{length, take, drop, getD, set, length-append}
-use lib.Seq.{drop-cons, append-snoc, set-append-seam}
+use lib.Seq.{drop-cons, append-snoc, set-append-seam, take-at, take-all, take-take, length-take-le}
 use Rattle.figures.specs.declared.Place.{Place}
 use Rattle.figures.specs.Text.{bytes, start, wroteByte, wrote}
 
@@ -105,3 +106,22 @@ fits l t h = fits-after [] l t h
 -- of a longer text the buffer holds what it can, and the place is full
 pub over : (l t : List ℕ) → length l < length t → wrote l start t ≡ (take (length l) t, record { at = length l; full = true })
 over l t h = over-after [] l t h
+
+-- either way: the place lies in the buffer, and up to it stands as much of the text as the buffer has room for
+abbrev Held : List ℕ → List ℕ → List ℕ × Place → Type 0
+Held l t w = (w .1 .at ≤ length (w .0)) × (take (w .1 .at) (w .0) ≡ take (length l) t)
+
+held-by : (l t : List ℕ) (b : Bool) → ltb (length l) (length t) ≡ b → Held l t (wrote l start t)
+held-by l t true h =
+    let o = ltb-true (length l) (length t) h in
+    let k = length-take-le (length l) t (omega arith) in
+    subst (Held l t) (sym (over l t o)) (omega arith, take-take (length l) (length l) t (omega arith))
+held-by l t false h =
+    let o = ltb-false (length l) (length t) h in
+    let k = length-append t (drop (length t) l) in
+    subst (Held l t) (sym (fits l t o)) (omega arith, take-at t (drop (length t) l) (length t) refl ∙ sym (take-all (length l) t o))
+
+pub held : (l t m : List ℕ) (p q : Place) → p ≡ start → (m, q) ≡ wrote l p t → (q .at ≤ length m) × (take (q .at) m ≡ take (length l) t)
+held l t m p q b e =
+    let w : wrote l start t ≡ (m, q) = sym (e ∙ ap (λ (s : Place). wrote l s t) b) in
+    subst (Held l t) w (held-by l t (ltb (length l) (length t)) refl)

@@ -1,4 +1,4 @@
--- Text in columns, a word of a table, and a line with numbers in it. Definitions only.
+-- Text in columns, and a word of a table. Definitions only.
 use Prim.Native.Nat.{ℕ, zero, suc, _+_, _-_}
 use mathlib.Core.Bool.{Bool, true, false, cond}
 use mathlib.Core.List.{List, [], _∷_, _++_}
@@ -29,27 +29,3 @@ unfoldable pub wordOf : ℕ → List ℕ → List ℕ
 wordOf k [] = []
 wordOf zero (b ∷ t) = let rest = wordOf zero t in cond (eqb b 10) [] (b ∷ rest)
 wordOf (suc k) (b ∷ t) = wordOf (suc k - same b 10) t
-
--- ---- a template: `%n` is the next whole number, `%g` the next float to seven digits, `%1` the next float with one decimal,
--- `?` where none is left; any other byte after `%`, and every other byte, stands for itself
-
-abbrev pub nextOf : {A : Type 0} → (A → List ℕ) → List A → List ℕ
-nextOf f [] = bytes "?"
-nextOf f (a ∷ l) = f a
-
-unfoldable pub markText : ℕ → List ℕ → List Float → List ℕ
-markText c ns xs =
-    cond (eqb c 110) (nextOf wholeText ns)
-    (cond (eqb c 103) (nextOf figureText xs) (cond (eqb c 49) (nextOf (λ x. fixedText x 1) xs) (c ∷ [])))
-
--- the text of a template, after `%` or not
-unfoldable pub fillFrom : Bool → List ℕ → List ℕ → List Float → List ℕ
-fillFrom m [] ns xs = []
-fillFrom true (c ∷ t) ns xs = markText c ns xs ++ fillFrom false t (drop (same c 110) ns) (drop (same c 103 + same c 49) xs)
-fillFrom false (b ∷ t) ns xs =
-    let mark = fillFrom true t ns xs in
-    let rest = fillFrom false t ns xs in
-    cond (eqb b 37) mark (b ∷ rest)
-
-abbrev pub filled : List ℕ → List ℕ → List Float → List ℕ
-filled t ns xs = fillFrom false t ns xs

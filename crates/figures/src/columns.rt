@@ -3,10 +3,12 @@ use crate::Place;
 use crate::byte;
 use crate::lesser;
 use crate::put;
-ghost use Prim.Native.Nat.{_-_};
+ghost use Prim.Native.Nat.{_-_, _≤_};
 ghost use mathlib.Core.Path.{_≡_};
+ghost use lib.ListN.{length, take};
 ghost use lib.Seq.{slice};
 ghost use Rattle.figures.specs.Text.{wrote};
+ghost use Rattle.figures.specs.Floats.{fixedText, figureText};
 ghost use Rattle.figures.specs.Lines.{spaces, leftText, rightText};
 
 // Spaces from n places up to the width.
@@ -45,22 +47,26 @@ pub fn part(out: &mut [u8], p: Place, width: usize, text: &[u8], from: usize, to
     left(out, p, width, &text[at..end])
 }
 
-// The bytes of a cell up to a place, at the right of the width.
-fn cell(out: &mut [u8], p: Place, width: usize, from: &[u8], q: Place) -> Place {
+// What a room of 64 bytes holds of a number's text, up to a place, at the right of the width.
+fn cell(out: &mut [u8], p: Place, width: usize, room: &[u8], q: Place) -> Place
+    requires { ⌜ q .at ≤ length (now room) ⌝ }
+    ensures { λ r. ⌜ (now (out .exit), r) ≡ wrote (now (out .entry)) p (rightText width (take (q .at) (now (room .entry)))) ⌝ }
+{
     let n = q.at;
-    if n <= from.len() {
-        return right(out, p, width, &from[0..n]);
-    }
-    p
+    right(out, p, width, &room[..n])
 }
 
-pub fn fixed(out: &mut [u8], p: Place, width: usize, x: f64, decimals: u64) -> Place {
+pub fn fixed(out: &mut [u8], p: Place, width: usize, x: f64, decimals: u64) -> Place
+    ensures { λ r. ⌜ (now (out .exit), r) ≡ wrote (now (out .entry)) p (rightText width (take 64 (fixedText x decimals))) ⌝ }
+{
     let mut room = [0u8; 64];
     let q = crate::floats::fixed(&mut room, crate::begin(), x, decimals);
     cell(out, p, width, &room, q)
 }
 
-pub fn figure(out: &mut [u8], p: Place, width: usize, x: f64) -> Place {
+pub fn figure(out: &mut [u8], p: Place, width: usize, x: f64) -> Place
+    ensures { λ r. ⌜ (now (out .exit), r) ≡ wrote (now (out .entry)) p (rightText width (take 64 (figureText x))) ⌝ }
+{
     let mut room = [0u8; 64];
     let q = crate::floats::figure(&mut room, crate::begin(), x);
     cell(out, p, width, &room, q)

@@ -5,9 +5,11 @@ pub mod floats;
 pub mod words;
 
 ghost use mathlib.Core.Path.{_≡_};
+ghost use mathlib.Core.List.{_++_};
 ghost use Prim.Native.Nat.{min};
 ghost use lib.Seq.{slice};
 ghost use Rattle.figures.specs.Text.{start, wrote, wroteByte, wholeText};
+ghost use Rattle.figures.specs.Floats.{fixedText, figureText};
 
 // How many bytes of the buffer are written, and whether something did not fit.
 pub struct Place {
@@ -79,19 +81,25 @@ pub fn whole(out: &mut [u8], p: Place, n: u64) -> Place
 }
 
 // A text and then a whole number.
-pub fn with_whole(out: &mut [u8], p: Place, text: &[u8], n: u64) -> Place {
+pub fn with_whole(out: &mut [u8], p: Place, text: &[u8], n: u64) -> Place
+    ensures { λ r. ⌜ (now (out .exit), r) ≡ wrote (now (out .entry)) p (now (text .entry) ++ wholeText n) ⌝ }
+{
     let q = put(out, p, text);
     whole(out, q, n)
 }
 
 // A text and then a float with so many decimals.
-pub fn with_fixed(out: &mut [u8], p: Place, text: &[u8], x: f64, decimals: u64) -> Place {
+pub fn with_fixed(out: &mut [u8], p: Place, text: &[u8], x: f64, decimals: u64) -> Place
+    ensures { λ r. ⌜ (now (out .exit), r) ≡ wrote (now (out .entry)) p (now (text .entry) ++ fixedText x decimals) ⌝ }
+{
     let q = put(out, p, text);
     floats::fixed(out, q, x, decimals)
 }
 
 // A text and then a float to seven significant digits.
-pub fn with_figure(out: &mut [u8], p: Place, text: &[u8], x: f64) -> Place {
+pub fn with_figure(out: &mut [u8], p: Place, text: &[u8], x: f64) -> Place
+    ensures { λ r. ⌜ (now (out .exit), r) ≡ wrote (now (out .entry)) p (now (text .entry) ++ figureText x) ⌝ }
+{
     let q = put(out, p, text);
     floats::figure(out, q, x)
 }
