@@ -1,28 +1,28 @@
 // refit: see `refit help`. The work is done by the crate refit_report, on slices; here are the arguments and the files.
 use libc::STDERR_FILENO;
 use libc::STDOUT_FILENO;
+use refit_options::options::Options;
 use refit_report::Outcome;
-use refit_report::options::Options;
 
 // One word more of the command line. One that does not fit is a fault.
 fn with_word(o: Options, i: usize) -> Options {
     let mut buf = io::buffer();
     let n = os::arg(i, &mut buf);
     if os::errno() != 0 {
-        return refit_report::options::too_long(o, i);
+        return refit_options::options::too_long(o, i);
     }
-    refit_report::options::next(o, &buf[..n], i)
+    refit_options::options::next(o, &buf[..n], i)
 }
 
 fn words() -> Options {
-    let mut o = refit_report::options::none();
+    let mut o = refit_options::options::none();
     let mut i = 1usize;
     let n = os::arg_count();
     while i < n {
         o = with_word(o, i);
         i += 1;
     }
-    refit_report::options::last(o)
+    refit_options::options::last(o)
 }
 
 // Standard error gets `refit: `, what is at fault, `: ` and the fault in words.
@@ -38,7 +38,7 @@ fn complain_of_word(o: Options) {
     let mut buf = io::buffer();
     let mut room = io::buffer();
     let n = os::arg(o.at, &mut buf);
-    let p = refit_report::options::fault(&mut room, figures::begin(), o.fault);
+    let p = refit_options::options::fault(&mut room, figures::begin(), o.fault);
     let k = p.at;
     if k <= 4096 {
         complain(&buf[..n], &room[0..k]);
@@ -47,7 +47,7 @@ fn complain_of_word(o: Options) {
 
 fn complain_of_line(name: &[u8], line: u64, fault: u64) {
     let mut room = io::buffer();
-    let p = refit_report::words::line_fault(&mut room, figures::begin(), line, fault);
+    let p = refit_options::words::line_fault(&mut room, figures::begin(), line, fault);
     let k = p.at;
     if k <= 4096 {
         complain(name, &room[0..k]);
@@ -56,7 +56,7 @@ fn complain_of_line(name: &[u8], line: u64, fault: u64) {
 
 fn print_help() {
     let mut room = io::large_buffer();
-    let p = refit_report::help::help(&mut room, figures::begin());
+    let p = refit_options::help::help(&mut room, figures::begin());
     let k = p.at;
     if k <= 65536 {
         io::write_all(STDOUT_FILENO, &room[0..k]);

@@ -1,16 +1,13 @@
 // The refit of readings, and what a person is told of it. No file is read or written here: `run` takes the readings, the
 // text that they were read from, which has the canisters' names, and the options, and writes the report, and the picture if
 // one is asked for, into lent buffers.
-pub mod help;
-pub mod options;
 pub mod report;
 pub mod tables;
-pub mod words;
 
-use crate::options::Options;
 use crate::report::report;
 use figures::Place;
 use refit_calculation::refit;
+use refit_options::options::Options;
 
 // A fault, or else how far the report and the picture were written.
 pub struct Outcome {

@@ -1,10 +1,6 @@
 // The report: what was asked, the start values, theta, the fit, and then the tables.
-use crate::options::Options;
 use crate::tables::canisters;
 use crate::tables::readings;
-use crate::words::curve;
-use crate::words::name;
-use crate::words::refusal;
 use figures::Place;
 use figures::columns::left;
 use figures::floats::figure;
@@ -13,6 +9,10 @@ use figures::whole;
 use figures::with_figure;
 use figures::with_whole;
 use refit_calculation::Answer;
+use refit_options::options::Options;
+use refit_options::words::curve;
+use refit_options::words::name;
+use refit_options::words::refusal;
 
 // The words that begin a line.
 fn item(out: &mut [u8], p: Place, label: &[u8]) -> Place {

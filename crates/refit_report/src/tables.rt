@@ -1,10 +1,10 @@
 // The two tables of a report: each canister's own curve, and each reading beside its curve.
-use crate::words::name;
 use figures::Place;
 use figures::columns;
 use figures::floats::decimals;
 use figures::put;
 use picture::curve_at;
+use refit_options::words::name;
 
 // A canister's name stands in the text from names[2g] to names[2g + 1].
 fn name_end(names: &[u64], i: usize) -> usize {

@@ -1,0 +1,31 @@
+// What `refit help` prints.
+use figures::Place;
+use figures::put;
+ghost use mathlib.Core.Path.{_≡_};
+ghost use Rattle.figures.specs.Text.{wrote};
+ghost use Rattle.refit_options.specs.Help.{helpText};
+
+pub fn help(out: &mut [u8], p: Place) -> Place
+    ensures { λ r. ⌜ (now (out .exit), r) ≡ wrote (now (out .entry)) p helpText ⌝ }
+{
+    let p = put(
+        out,
+        p,
+        b"refit: fits a dosing curve to weighed doses, with each canister's own curve\n\n  refit [FILE] [options]    fits the readings of FILE; without FILE, R's data set Orange\n  refit help                this text\n\nA line of the file is a reading: dose,grams,canister. The canister is a number or a name. A line that\nbegins with # is a comment; the first line may be a header. At most 512 readings and 32 canisters.\n\n",
+    );
+    let p = put(
+        out,
+        p,
+        b"  --curve SSlogis     Asym / (1 + exp((xmid - dose) / scal)): this one if none is named\n  --curve SSasymp     Asym + (R0 - Asym) * exp(-exp(lrc) * dose)\n  --curve SSmicmen    Vm * dose / (K + dose)\n  --curve SSfpl       A + (B - A) / (1 + exp((xmid - dose) / scal))\n  --effect NAME       the value that each canister has its own of: Asym, R0, K, ..; if none is named the curve's first\n  --ml, --reml        maximum likelihood, if nothing is said, or restricted maximum likelihood\n",
+    );
+    let p = put(
+        out,
+        p,
+        b"  --quadrature N      the order of quadrature, 0 to 11; 0 or 1, if nothing is said, is none. CAUTION: the others\n                      follow the published Rust to the last bit, and its correction moves theta far away from where\n                      other programs find it. Leave it out unless you want just those numbers.\n  --svg NAME.svg      also a picture of the readings and each canister's curve; a file of that name is overwritten\n\n",
+    );
+    put(
+        out,
+        p,
+        b"theta says how freely a canister's own value may differ: an effect b adds (b / theta)^2 to the squared differences.\nIt is searched from 0.2 to 20 in a bracket that ends at most 0.0001 wide, with at most 60 narrowings. Each fit may\ntake 200 rounds. The values of the curve have no bounds. A search or a fit that does not converge is said to have\nNOT CONVERGED: do not use its numbers.\n",
+    )
+}
