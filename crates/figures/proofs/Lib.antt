@@ -1,6 +1,7 @@
 pub mod Digits
 pub mod Parts
 pub mod Lines
+pub mod Filling
 mod FloatExamples
 mod FloatMeaning
 mod NearestLaws

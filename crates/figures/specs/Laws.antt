@@ -34,6 +34,9 @@ wrote-then l p (b ∷ t) u = wrote-then (wroteByte l p b .0) (wroteByte l p b .1
 pub next : (l m : List ℕ) (p q : Place) (t u : List ℕ) → (m, q) ≡ wrote l p t → wrote m q u ≡ wrote l p (t ++ u)
 next l m p q t u e = ap (λ (w : List ℕ × Place). wrote (w .0) (w .1) u) e ∙ sym (wrote-then l p t u)
 
+pub then : (l m : List ℕ) (p q : Place) (t u : List ℕ) (w : List ℕ × Place) → (m, q) ≡ wrote l p t → w ≡ wrote m q u → w ≡ wrote l p (t ++ u)
+then l m p q t u w e f = f ∙ next l m p q t u e
+
 -- one byte in its three cases
 pub byte-full : (l : List ℕ) (p : Place) (b : ℕ) → p .full ≡ true → (l, p) ≡ wroteByte l p b
 unfolding wroteByte
@@ -53,6 +56,9 @@ byte-over l p b f h = rw (f, le-ltb (p .at) (length l) h)
 pub byte-then : (l m : List ℕ) (p q : Place) (b : ℕ) (t : List ℕ) → (m, q) ≡ wroteByte l p b → wrote m q t ≡ wrote l p (b ∷ t)
 unfolding wrote
 byte-then l m p q b t e = ap (λ (w : List ℕ × Place). wrote (w .0) (w .1) t) e
+
+pub byte-one : (l m : List ℕ) (p q : Place) (b : ℕ) → (m, q) ≡ wroteByte l p b → (m, q) ≡ wrote l p (b ∷ [])
+byte-one l m p q b e = sym (wrote-none m q) ∙ byte-then l m p q b [] e
 
 pub byte-next : (l m : List ℕ) (p q : Place) (t : List ℕ) (i : ℕ) → i < length t → (m, q) ≡ wroteByte l p (getD t i 0)
     → wrote m q (drop (i + 1) t) ≡ wrote l p (drop i t)

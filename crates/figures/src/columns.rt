@@ -9,7 +9,7 @@ ghost use lib.ListN.{length, take};
 ghost use lib.Seq.{slice};
 ghost use Rattle.figures.specs.Text.{wrote};
 ghost use Rattle.figures.specs.Floats.{fixedText, figureText};
-ghost use Rattle.figures.specs.Lines.{spaces, leftText, rightText};
+ghost use Rattle.figures.specs.Lines.{spaces, leftText, rightText, cellText};
 
 // Spaces from n places up to the width.
 fn pad(out: &mut [u8], p: Place, width: usize, n: usize) -> Place
@@ -57,7 +57,7 @@ fn cell(out: &mut [u8], p: Place, width: usize, room: &[u8], q: Place) -> Place
 }
 
 pub fn fixed(out: &mut [u8], p: Place, width: usize, x: f64, decimals: u64) -> Place
-    ensures { λ r. ⌜ (now (out .exit), r) ≡ wrote (now (out .entry)) p (rightText width (take 64 (fixedText x decimals))) ⌝ }
+    ensures { λ r. ⌜ (now (out .exit), r) ≡ wrote (now (out .entry)) p (cellText width (fixedText x decimals)) ⌝ }
 {
     let mut room = [0u8; 64];
     let q = crate::floats::fixed(&mut room, crate::begin(), x, decimals);
@@ -65,7 +65,7 @@ pub fn fixed(out: &mut [u8], p: Place, width: usize, x: f64, decimals: u64) -> P
 }
 
 pub fn figure(out: &mut [u8], p: Place, width: usize, x: f64) -> Place
-    ensures { λ r. ⌜ (now (out .exit), r) ≡ wrote (now (out .entry)) p (rightText width (take 64 (figureText x))) ⌝ }
+    ensures { λ r. ⌜ (now (out .exit), r) ≡ wrote (now (out .entry)) p (cellText width (figureText x)) ⌝ }
 {
     let mut room = [0u8; 64];
     let q = crate::floats::figure(&mut room, crate::begin(), x);

@@ -2,6 +2,7 @@
 // its caller asks once, at the end.
 pub mod columns;
 pub mod floats;
+pub mod template;
 pub mod words;
 
 ghost use mathlib.Core.Path.{_≡_};

@@ -8,7 +8,7 @@ ghost use Rattle.figures.specs.Text.{wrote};
 ghost use Rattle.figures.specs.Lines.{wordOf, same as Lines·same};
 
 // 1 where two bytes are the same.
-fn same(b: u8, c: u8) -> usize
+pub fn same(b: u8, c: u8) -> usize
     ensures { λ r. ⌜ r ≡ Lines·same b c ⌝ }
     ensures { λ r. ⌜ r ≤ 1 ⌝ }
 {
