@@ -1,13 +1,20 @@
 // The refit of readings, and what a person is told of it. No file is read or written here: `run` takes the readings, the
 // text that they were read from, which has the canisters' names, and the options, and writes the report, and the picture if
 // one is asked for, into lent buffers.
+pub mod beginning;
 pub mod report;
 pub mod tables;
 
 use crate::report::report;
+use curves::mean_fn::n_params;
 use figures::Place;
 use refit_calculation::refit;
 use refit_options::options::Options;
+ghost use mathlib.Core.Path.{_≡_};
+ghost use Prim.Native.Nat.{_≤_};
+ghost use lib.ListN.{length};
+ghost use lib.Seq.{paste};
+ghost use Rattle.refit_report.specs.Run.{Ran, refusedWith, picturedOf, answerOf, faultOf, InReach, runOf};
 
 // A fault, or else how far the report and the picture were written.
 pub struct Outcome {
@@ -16,7 +23,9 @@ pub struct Outcome {
     pub picture: Place,
 }
 
-fn refused(fault: u64) -> Outcome {
+fn refused(fault: u64) -> Outcome
+    ensures { λ r. ⌜ r ≡ refusedWith fault ⌝ }
+{
     Outcome {
         fault: fault,
         report: figures::begin(),
@@ -24,19 +33,14 @@ fn refused(fault: u64) -> Outcome {
     }
 }
 
-fn set(to: &mut [usize], i: usize, from: &[u64]) {
-    if i < to.len() {
-        if i < from.len() {
-            to[i] = from[i] as usize;
-        }
-    }
-}
-
-// The numbers as indices.
-fn indices(from: &[u64], to: &mut [usize]) {
+// The first n numbers as indices.
+fn indices(from: &[u64], to: &mut [usize], n: usize)
+    requires { ⌜ (n ≤ length (now from)) × (n ≤ length (now to)) ⌝ }
+    ensures { λ _. ⌜ now (to .exit) ≡ paste (now (to .entry)) 0 (now (from .entry)) n ⌝ }
+{
     let mut i = 0usize;
-    while i < to.len() {
-        set(to, i, from);
+    while i < n {
+        to[i] = from[i] as usize;
         i += 1;
     }
 }
@@ -45,7 +49,7 @@ fn indices(from: &[u64], to: &mut [usize]) {
 fn pictured(
     o: Options,
     example: bool,
-    fitted: bool,
+    stage: u64,
     text: &[u8],
     doses: &[f64],
     grams: &[f64],
@@ -54,36 +58,35 @@ fn pictured(
     values: &[f64],
     b: &[f64],
     svg: &mut [u8],
-) -> Place {
+) -> Place
+    ensures { λ r. ⌜
+        (now (svg .exit), r)
+        ≡ picturedOf o example stage (now (text .entry)) (now (doses .entry)) (now (grams .entry)) (now (group .entry))
+        (now (names .entry)) (now (values .entry)) (now (b .entry)) (now (svg .entry)) ⌝ }
+{
     if o.svg == 0 {
         return figures::begin();
     }
-    if fitted {
-        return picture::draw(
-            svg,
-            o.code,
-            o.place,
-            text,
-            doses,
-            grams,
-            group,
-            names,
-            values,
-            b,
-            example,
-        );
+    if stage != 0 {
+        return figures::begin();
     }
-    figures::begin()
+    picture::draw(
+        svg,
+        o.code,
+        o.place,
+        text,
+        doses,
+        grams,
+        group,
+        names,
+        values,
+        b,
+        example,
+    )
 }
 
-// How far the report was written, and whether there is a fit.
-struct Written {
-    report: Place,
-    fitted: bool,
-}
-
-// The refit of readings that were read, and its report.
-fn told(
+// The refit of readings that were read, its report, and the picture.
+fn answer(
     o: Options,
     example: bool,
     text: &[u8],
@@ -95,9 +98,15 @@ fn told(
     values: &mut [f64],
     b: &mut [f64],
     out: &mut [u8],
-) -> Written {
+    svg: &mut [u8],
+) -> Outcome
+    ensures { λ r. ⌜
+        answerOf o example (now (text .entry)) (now (doses .entry)) (now (grams .entry)) (now (group .entry)) (now (names .entry))
+        (now (starts .entry)) (now (values .entry)) (now (b .entry)) (now (out .entry)) (now (svg .entry))
+        ≡ record { outcome = r; out = now (out .exit); svg = now (svg .exit) } ⌝ }
+{
     let effects = [o.place];
-    let r = refit(
+    let a = refit(
         o.code,
         doses,
         grams,
@@ -112,7 +121,7 @@ fn told(
     let p = report(
         out,
         o,
-        r,
+        a,
         example,
         text,
         doses,
@@ -122,45 +131,11 @@ fn told(
         starts,
         values,
         b,
-    );
-    Written {
-        report: p,
-        fitted: r.stage == 0,
-    }
-}
-
-// The same, and the picture where there is a fit.
-fn answer(
-    o: Options,
-    example: bool,
-    text: &[u8],
-    doses: &[f64],
-    grams: &[f64],
-    group: &[usize],
-    names: &[u64],
-    starts: &mut [f64],
-    values: &mut [f64],
-    b: &mut [f64],
-    out: &mut [u8],
-    svg: &mut [u8],
-) -> Outcome {
-    let t = told(
-        o,
-        example,
-        text,
-        doses,
-        grams,
-        group,
-        names,
-        starts,
-        values,
-        b,
-        out,
     );
     let q = pictured(
         o,
         example,
-        t.fitted,
+        a.stage,
         text,
         doses,
         grams,
@@ -170,10 +145,9 @@ fn answer(
         b,
         svg,
     );
-    let w = t.report;
     Outcome {
         fault: 0,
-        report: w,
+        report: p,
         picture: q,
     }
 }
@@ -192,40 +166,53 @@ pub fn run(
     names: &[u64],
     out: &mut [u8],
     svg: &mut [u8],
-) -> Outcome {
+) -> Outcome
+    ensures { λ r. ⌜
+        runOf o example (now (text .entry)) n groups (now (doses .entry)) (now (grams .entry)) (now (numbers .entry))
+        (now (names .entry)) (now (out .entry)) (now (svg .entry))
+        ≡ record { outcome = r; out = now (out .exit); svg = now (svg .exit) } ⌝ }
+{
+    let f = fault_of(n, groups, doses.len(), grams.len(), numbers.len());
+    if f != 0 {
+        return refused(f);
+    }
+    let k = n_params(o.code);
     let mut group = [0usize; 512];
     let mut starts = [0.0; 4];
     let mut values = [0.0; 4];
     let mut b = [0.0; 32];
-    indices(numbers, &mut group);
-    let k = curves::mean_fn::n_params(o.code);
-    if n > 512 {
-        return refused(7);
-    }
-    if n > doses.len() {
-        return refused(7);
-    }
-    if n > grams.len() {
-        return refused(7);
-    }
-    if groups > 32 {
-        return refused(8);
-    }
-    if k > 4 {
-        return refused(10);
-    }
+    indices(numbers, &mut group, n);
     answer(
         o,
         example,
         text,
-        &doses[0..n],
-        &grams[0..n],
-        &group[0..n],
+        &doses[..n],
+        &grams[..n],
+        &group[..n],
         names,
-        &mut starts[0..k],
-        &mut values[0..k],
-        &mut b[0..groups],
+        &mut starts[..k],
+        &mut values[..k],
+        &mut b[..groups],
         out,
         svg,
     )
+}
+
+// More readings than 512 or than a list has, or more canisters than 32.
+fn fault_of(n: usize, groups: usize, doses: usize, grams: usize, numbers: usize) -> u64
+    ensures { λ r. ⌜ (r ≡ faultOf n groups doses grams numbers) × (r ≡ 0 → InReach n groups doses grams numbers) ⌝ }
+{
+    if n > 512 {
+        return 7;
+    }
+    if n > doses {
+        return 7;
+    }
+    if n > grams {
+        return 7;
+    }
+    if n > numbers {
+        return 7;
+    }
+    if groups > 32 { 8 } else { 0 }
 }

@@ -1,341 +1,175 @@
-// The report: what was asked, the start values, theta, the fit, and then the tables.
+// The report: after its beginning the start values, theta, the fit, and then the tables.
+use crate::beginning::beginning;
+use crate::beginning::either;
+use crate::beginning::when;
 use crate::tables::canisters;
 use crate::tables::readings;
 use figures::Place;
-use figures::columns::left;
-use figures::floats::figure;
 use figures::put;
-use figures::whole;
-use figures::with_figure;
-use figures::with_whole;
+use figures::template::fill;
+use figures::words::word;
 use refit_calculation::Answer;
 use refit_options::options::Options;
-use refit_options::words::curve;
 use refit_options::words::name;
-use refit_options::words::refusal;
+ghost use mathlib.Core.Path.{_≡_};
+ghost use Rattle.figures.specs.Text.{start, wrote};
+ghost use Rattle.refit_report.specs.Report.{valuesText, startsText, thetaText, spreadText, convergedText, fitText, isStep, curveText, refusedText, resultsText, reportText};
 
-// The words that begin a line.
-fn item(out: &mut [u8], p: Place, label: &[u8]) -> Place {
-    let p = put(out, p, b"  ");
-    left(out, p, 14, label)
-}
-
-fn heading(out: &mut [u8], p: Place, text: &[u8]) -> Place {
-    let p = put(out, p, b"\n");
-    let p = put(out, p, text);
-    put(out, p, b"\n")
-}
-
-fn source(out: &mut [u8], example: bool) -> Place {
-    if example {
-        return put(
+// A line for each value of the curve.
+fn values_of(out: &mut [u8], p: Place, code: u64, values: &[f64]) -> Place
+    ensures { λ r. ⌜ (now (out .exit), r) ≡ wrote (now (out .entry)) p (valuesText code (now (values .entry))) ⌝ }
+{
+    match code {
+        1 => fill(
             out,
-            figures::begin(),
-            b"No file was named: this is R's data set Orange, with the age in days as the dose, the circumference\nin mm as the grams and the tree as the canister. 'refit help' tells what else can be asked.\n\n",
-        );
+            p,
+            b"  Asym          %g\n  xmid          %g\n  scal          %g\n",
+            &[],
+            values,
+        ),
+        2 => fill(
+            out,
+            p,
+            b"  Asym          %g\n  R0            %g\n  lrc           %g\n",
+            &[],
+            values,
+        ),
+        3 => fill(
+            out,
+            p,
+            b"  Vm            %g\n  K             %g\n",
+            &[],
+            values,
+        ),
+        _ => fill(
+            out,
+            p,
+            b"  A             %g\n  B             %g\n  xmid          %g\n  scal          %g\n",
+            &[],
+            values,
+        ),
     }
-    figures::begin()
 }
 
-fn counts(out: &mut [u8], p: Place, n: usize, groups: usize) -> Place {
-    let p = item(out, p, b"readings");
-    let p = whole(out, p, n as u64);
-    let p = with_whole(out, p, b", of ", groups as u64);
-    put(out, p, b" canisters\n")
-}
-
-fn curve_line(out: &mut [u8], p: Place, code: u64) -> Place {
-    let p = item(out, p, b"curve");
-    let p = curve(out, p, code);
-    put(out, p, b"\n")
-}
-
-fn effect_line(out: &mut [u8], p: Place, o: Options) -> Place {
-    let p = item(out, p, b"effect");
-    let p = put(out, p, b"each canister has its own ");
-    let p = name(out, p, o.code, o.place);
-    put(out, p, b"\n")
-}
-
-fn method(out: &mut [u8], p: Place, reml: bool) -> Place {
-    let p = item(out, p, b"method");
-    if reml {
-        return put(out, p, b"restricted maximum likelihood\n");
-    }
-    put(out, p, b"maximum likelihood\n")
-}
-
-// Quadrature is asked for where the order is above 1.
-fn quadrature(out: &mut [u8], p: Place, order: u64) -> Place {
-    if order < 2 {
-        return p;
-    }
-    let p = item(out, p, b"quadrature");
-    let p = with_whole(out, p, b"order ", order);
-    put(
+fn starts_of(out: &mut [u8], p: Place, code: u64, turned: bool, starts: &[f64]) -> Place
+    ensures { λ r. ⌜ (now (out .exit), r) ≡ wrote (now (out .entry)) p (startsText code turned (now (starts .entry))) ⌝ }
+{
+    let p = put(out, p, b"\nStart values, from the readings\n");
+    let p = values_of(out, p, code, starts);
+    when(
         out,
         p,
-        b". CAUTION: it follows the published Rust, whose correction moves theta far away from where\n                other programs find it. Leave it out unless you want just those numbers.\n",
+        turned,
+        b"  Note: for readings that rise the self-start answers this scal with a minus sign, from which a fit ends in a step.\n  The sign was turned here before the search.\n",
     )
 }
 
-// What was asked for.
-fn asked(out: &mut [u8], p: Place, o: Options, n: usize, groups: usize) -> Place {
-    let p = put(out, p, b"Refit\n");
-    let p = counts(out, p, n, groups);
-    let p = curve_line(out, p, o.code);
-    effect_line(out, p, o)
-}
-
-fn asked_method(out: &mut [u8], p: Place, o: Options) -> Place {
-    let p = method(out, p, o.reml);
-    quadrature(out, p, o.n_agq)
-}
-
-// A number and what it is.
-fn number(out: &mut [u8], p: Place, label: &[u8], x: f64) -> Place {
-    let p = item(out, p, label);
-    figure(out, p, x)
-}
-
-fn number_line(out: &mut [u8], p: Place, label: &[u8], x: f64) -> Place {
-    let p = number(out, p, label, x);
-    put(out, p, b"\n")
-}
-
-// A value of the curve and its name.
-fn value(out: &mut [u8], p: Place, code: u64, i: usize, x: f64) -> Place {
-    let mut room = [0u8; 8];
-    let q = name(&mut room, figures::begin(), code, i);
-    let n = q.at;
-    if n <= 8 {
-        return number_line(out, p, &room[0..n], x);
-    }
-    number_line(out, p, b"?", x)
-}
-
-fn values_of(out: &mut [u8], p: Place, code: u64, values: &[f64]) -> Place {
-    let mut p = p;
-    let mut i = 0usize;
-    while i < values.len() {
-        p = value(out, p, code, i, math::at(values, i));
-        i += 1;
-    }
-    p
-}
-
-fn starts_of(out: &mut [u8], p: Place, code: u64, turned: bool, starts: &[f64]) -> Place {
-    let p = heading(out, p, b"Start values, from the readings");
-    let p = values_of(out, p, code, starts);
-    if turned {
-        return put(
-            out,
-            p,
-            b"  Note: for readings that rise the self-start answers this scal with a minus sign, from which a fit ends in a step.\n  The sign was turned here before the search.\n",
-        );
-    }
-    p
-}
-
 // A search or a fit that has not converged is told loudly.
-fn converged(out: &mut [u8], p: Place, is: bool) -> Place {
-    if is {
-        return put(out, p, b"  converged\n");
-    }
-    put(
+fn converged(out: &mut [u8], p: Place, is: bool) -> Place
+    ensures { λ r. ⌜ (now (out .exit), r) ≡ wrote (now (out .entry)) p (convergedText is) ⌝ }
+{
+    either(
         out,
         p,
+        is,
+        b"  converged\n",
         b"  *** NOT CONVERGED: do not use these numbers ***\n",
     )
 }
 
 // Theta near an end of the bracket may lie beyond it.
-fn near_end(out: &mut [u8], p: Place, theta: f64) -> Place {
-    if theta < 0.201 {
-        return put(
-            out,
-            p,
-            b"  *** theta lies at the lower end of the searched range: the best theta may be smaller ***\n",
-        );
-    }
-    if theta > 19.999 {
-        return put(
-            out,
-            p,
-            b"  *** theta lies at the upper end of the searched range: the best theta may be larger ***\n",
-        );
-    }
-    p
-}
-
-fn search_line(out: &mut [u8], p: Place, narrowings: u64, fits: u64) -> Place {
-    let p = item(out, p, b"search");
-    let p = whole(out, p, narrowings);
-    let p = with_whole(out, p, b" narrowings, ", fits);
-    put(out, p, b" fits\n")
-}
-
-fn theta_of(out: &mut [u8], p: Place, r: Answer) -> Place {
-    let p = heading(out, p, b"Theta, searched from 0.2 to 20");
-    let p = number_line(out, p, b"theta", r.theta);
-    let p = number_line(out, p, b"criterion", r.criterion);
-    search_line(out, p, r.narrowings, r.fits)
-}
-
-fn theta_warnings(out: &mut [u8], p: Place, r: Answer) -> Place {
-    let p = converged(out, p, r.found);
-    near_end(out, p, r.theta)
-}
-
-fn rounds_line(out: &mut [u8], p: Place, rounds: usize, trials: usize) -> Place {
-    let p = item(out, p, b"rounds");
-    let p = whole(out, p, rounds as u64);
-    let p = with_whole(out, p, b", with ", trials as u64);
-    put(out, p, b" trials\n")
-}
-
-fn rss_line(out: &mut [u8], p: Place, rss: f64) -> Place {
-    let p = number(out, p, b"rss", rss);
-    put(out, p, b"   the sum of the squared differences\n")
-}
-
-fn sigma_line(out: &mut [u8], p: Place, sigma2: f64) -> Place {
-    let p = number(out, p, b"sigma2", sigma2);
-    let p = with_figure(
+fn theta_of(out: &mut [u8], p: Place, r: Answer) -> Place
+    ensures { λ q. ⌜ (now (out .exit), q) ≡ wrote (now (out .entry)) p (thetaText r) ⌝ }
+{
+    let p = fill(
         out,
         p,
-        b"   the variance of a reading; its root is ",
-        math::sqrt::sqrt(sigma2),
+        b"\nTheta, searched from 0.2 to 20\n  theta         %g\n  criterion     %g\n  search        %n narrowings, %n fits\n",
+        &[r.narrowings, r.fits],
+        &[r.theta, r.criterion],
     );
-    put(out, p, b"\n")
-}
-
-// The spread of the canisters, which is theta times the root of sigma2 but for SSasymp, whose criterion is another.
-fn spread(out: &mut [u8], p: Place, o: Options, x: f64) -> Place {
-    if o.code == 2 {
-        return p;
-    }
-    let p = number(out, p, b"canisters'", x);
-    let p = put(out, p, b"   spread of their ");
-    let p = name(out, p, o.code, o.place);
-    put(out, p, b": theta times the root of sigma2\n")
-}
-
-fn fit_of(out: &mut [u8], p: Place, r: Answer) -> Place {
-    let p = heading(out, p, b"The fit at theta");
-    let p = rounds_line(out, p, r.rounds, r.trials);
-    let p = rss_line(out, p, r.rss);
-    sigma_line(out, p, r.sigma2)
-}
-
-fn fit_warnings(out: &mut [u8], p: Place, o: Options, r: Answer) -> Place {
-    let p = spread(out, p, o, r.theta * math::sqrt::sqrt(r.sigma2));
-    converged(out, p, r.converged)
-}
-
-fn stage(out: &mut [u8], p: Place, number: u64) -> Place {
-    match number {
-        1 => put(out, p, b"\n*** REFUSED: no start values"),
-        2 => put(out, p, b"\n*** REFUSED: no search"),
-        _ => put(out, p, b"\n*** REFUSED: no fit"),
-    }
-}
-
-// Which part of the work was refused, by which number, and what that means.
-fn refused(out: &mut [u8], p: Place, at: u64, number: u64) -> Place {
-    let p = stage(out, p, at);
-    let p = with_whole(out, p, b". The library answers number ", number);
-    let p = put(out, p, b": ");
-    refusal(out, p, number)
-}
-
-fn refused_line(out: &mut [u8], p: Place, at: u64, number: u64) -> Place {
-    let p = refused(out, p, at, number);
-    put(out, p, b" ***\n")
-}
-
-// What the search and the fit found.
-fn found(out: &mut [u8], p: Place, o: Options, r: Answer) -> Place {
-    let p = theta_of(out, p, r);
-    let p = theta_warnings(out, p, r);
-    let p = fit_of(out, p, r);
-    fit_warnings(out, p, o, r)
-}
-
-// A trial puts a scal that would fall below 1e-6 there: what ends so is a step and no fit, though it may have converged.
-fn floor_warning(out: &mut [u8], p: Place, scal: f64) -> Place {
-    if scal < 2e-6 {
-        return put(
-            out,
-            p,
-            b"  *** scal ended at its floor, 1e-06: this curve is a step. Do not use these numbers. Do the readings fall? ***\n",
-        );
-    }
-    p
-}
-
-fn scal_warning(out: &mut [u8], p: Place, code: u64, values: &[f64]) -> Place {
-    if code == 1 {
-        return floor_warning(out, p, math::at(values, 2));
-    }
-    if code == 4 {
-        return floor_warning(out, p, math::at(values, 3));
-    }
-    p
-}
-
-fn curve_values(out: &mut [u8], p: Place, code: u64, values: &[f64]) -> Place {
-    let p = values_of(out, p, code, values);
-    scal_warning(out, p, code, values)
-}
-
-fn curves_of(
-    out: &mut [u8],
-    p: Place,
-    o: Options,
-    text: &[u8],
-    names: &[u64],
-    values: &[f64],
-    b: &[f64],
-) -> Place {
-    let p = heading(out, p, b"The curve of all canisters");
-    let p = curve_values(out, p, o.code, values);
-    let p = heading(out, p, b"Each canister's own curve");
-    canisters(out, p, o.code, o.place, text, names, values, b)
-}
-
-fn readings_of(
-    out: &mut [u8],
-    p: Place,
-    o: Options,
-    text: &[u8],
-    doses: &[f64],
-    grams: &[f64],
-    group: &[usize],
-    names: &[u64],
-    values: &[f64],
-    b: &[f64],
-) -> Place {
-    let p = heading(out, p, b"Each reading");
-    readings(
+    let p = converged(out, p, r.found);
+    let p = when(
         out,
         p,
-        o.code,
-        o.place,
-        text,
-        doses,
-        grams,
-        group,
-        names,
-        values,
-        b,
+        r.theta < 0.201,
+        b"  *** theta lies at the lower end of the searched range: the best theta may be smaller ***\n",
+    );
+    when(
+        out,
+        p,
+        r.theta > 19.999,
+        b"  *** theta lies at the upper end of the searched range: the best theta may be larger ***\n",
     )
 }
 
-fn beginning(out: &mut [u8], o: Options, example: bool, n: usize, groups: usize) -> Place {
-    let p = source(out, example);
-    let p = asked(out, p, o, n, groups);
-    asked_method(out, p, o)
+// The spread of the canisters, which is theta times the root of sigma2 but for SSasymp, whose criterion is another.
+fn spread(out: &mut [u8], p: Place, code: u64, place: usize, x: f64) -> Place
+    ensures { λ r. ⌜ (now (out .exit), r) ≡ wrote (now (out .entry)) p (spreadText code place x) ⌝ }
+{
+    if code == 2 {
+        return p;
+    }
+    let p = fill(out, p, b"  canisters'    %g   spread of their ", &[], &[x]);
+    let p = name(out, p, code, place);
+    put(out, p, b": theta times the root of sigma2\n")
+}
+
+fn fit_of(out: &mut [u8], p: Place, code: u64, place: usize, r: Answer) -> Place
+    ensures { λ q. ⌜ (now (out .exit), q) ≡ wrote (now (out .entry)) p (fitText code place r) ⌝ }
+{
+    let root = math::sqrt::sqrt(r.sigma2);
+    let p = fill(
+        out,
+        p,
+        b"\nThe fit at theta\n  rounds        %n, with %n trials\n  rss           %g   the sum of the squared differences\n  sigma2        %g   the variance of a reading; its root is %g\n",
+        &[r.rounds as u64, r.trials as u64],
+        &[r.rss, r.sigma2, root],
+    );
+    let p = spread(out, p, code, place, r.theta * root);
+    converged(out, p, r.converged)
+}
+
+// A trial puts a scal that would fall below 1e-6 there: what ends so is a step and no fit, though it may have converged.
+fn is_step(code: u64, values: &[f64]) -> bool
+    ensures { λ r. ⌜ r ≡ isStep code (now (values .entry)) ⌝ }
+{
+    if code == 1 {
+        return math::at(values, 2) < 2e-6;
+    }
+    if code == 4 {
+        return math::at(values, 3) < 2e-6;
+    }
+    false
+}
+
+fn curve_of_all(out: &mut [u8], p: Place, code: u64, values: &[f64]) -> Place
+    ensures { λ r. ⌜ (now (out .exit), r) ≡ wrote (now (out .entry)) p (curveText code (now (values .entry))) ⌝ }
+{
+    let p = put(out, p, b"\nThe curve of all canisters\n");
+    let p = values_of(out, p, code, values);
+    when(
+        out,
+        p,
+        is_step(code, values),
+        b"  *** scal ended at its floor, 1e-06: this curve is a step. Do not use these numbers. Do the readings fall? ***\n",
+    )
+}
+
+// Which part of the work was refused, by which number, and what that means.
+fn refused(out: &mut [u8], p: Place, stage: u64, number: u64) -> Place
+    ensures { λ r. ⌜ (now (out .exit), r) ≡ wrote (now (out .entry)) p (refusedText stage number) ⌝ }
+{
+    let p = put(out, p, b"\n*** REFUSED: no ");
+    let p = word(out, p, b"\nstart values\nsearch\nfit\n", stage);
+    let p = fill(out, p, b". The library answers number %n: ", &[number], &[]);
+    let p = word(
+        out,
+        p,
+        b"\nno such curve\nno readings, more than 512, or lists of unequal lengths\nno canisters or more than 32\na reading of a canister that is not there\nthe effect is not a value of the curve\na list of starts, bounds or theta has a wrong length\na reading, a start value or theta is not a finite number, or a bound is none\na lower bound above its upper one\na list for the answer has a wrong length\ntoo many rounds or narrowings, or two effects\n",
+        number,
+    );
+    put(out, p, b" ***\n")
 }
 
 // What was found, each canister's curve and each reading.
@@ -351,10 +185,30 @@ fn results(
     names: &[u64],
     values: &[f64],
     b: &[f64],
-) -> Place {
-    let p = found(out, p, o, r);
-    let p = curves_of(out, p, o, text, names, values, b);
-    readings_of(out, p, o, text, doses, grams, group, names, values, b)
+) -> Place
+    ensures { λ q. ⌜
+        (now (out .exit), q)
+        ≡ wrote (now (out .entry)) p
+        (resultsText o r (now (text .entry)) (now (doses .entry)) (now (grams .entry)) (now (group .entry))
+        (now (names .entry)) (now (values .entry)) (now (b .entry))) ⌝ }
+{
+    let p = theta_of(out, p, r);
+    let p = fit_of(out, p, o.code, o.place, r);
+    let p = curve_of_all(out, p, o.code, values);
+    let p = canisters(out, p, o.code, o.place, text, names, values, b);
+    readings(
+        out,
+        p,
+        o.code,
+        o.place,
+        text,
+        doses,
+        grams,
+        group,
+        names,
+        values,
+        b,
+    )
 }
 
 pub fn report(
@@ -370,14 +224,20 @@ pub fn report(
     starts: &[f64],
     values: &[f64],
     b: &[f64],
-) -> Place {
+) -> Place
+    ensures { λ q. ⌜
+        (now (out .exit), q)
+        ≡ wrote (now (out .entry)) start
+        (reportText o r example (now (text .entry)) (now (doses .entry)) (now (grams .entry)) (now (group .entry))
+        (now (names .entry)) (now (starts .entry)) (now (values .entry)) (now (b .entry))) ⌝ }
+{
     let p = beginning(out, o, example, doses.len(), b.len());
     if r.stage == 1 {
-        return refused_line(out, p, r.stage, r.refused);
+        return refused(out, p, r.stage, r.refused);
     }
     let p = starts_of(out, p, o.code, r.turned, starts);
-    if r.stage != 0 {
-        return refused_line(out, p, r.stage, r.refused);
+    if r.stage == 0 {
+        return results(out, p, o, r, text, doses, grams, group, names, values, b);
     }
-    results(out, p, o, r, text, doses, grams, group, names, values, b)
+    refused(out, p, r.stage, r.refused)
 }

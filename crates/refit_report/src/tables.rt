@@ -3,50 +3,31 @@ use figures::Place;
 use figures::columns;
 use figures::floats::decimals;
 use figures::put;
+use figures::words::word;
 use picture::curve_at;
-use refit_options::words::name;
+ghost use mathlib.Core.Path.{_≡_};
+ghost use lib.ListN.{length, getD};
+ghost use Rattle.math.specs.Basic.{absOf, maxOf};
+ghost use Rattle.figures.specs.Text.{wrote};
+ghost use Rattle.refit_report.specs.Tables.{each, canisterText, decimalsFor, largestOf, ownText, canisterRow, canistersText, readingRow, readingAt, readingsText};
 
-// A canister's name stands in the text from names[2g] to names[2g + 1].
-fn name_end(names: &[u64], i: usize) -> usize {
-    if i < names.len() {
-        return names[i] as usize;
-    }
-    0
-}
-
-// At the left of 14 places.
-fn canister(out: &mut [u8], p: Place, text: &[u8], names: &[u64], g: usize) -> Place {
+// A canister's name stands in the text from names[2g] to names[2g + 1]: at the left of 14 places.
+fn canister(out: &mut [u8], p: Place, text: &[u8], names: &[u64], g: usize) -> Place
+    ensures { λ r. ⌜ (now (out .exit), r) ≡ wrote (now (out .entry)) p (canisterText (now (text .entry)) (now (names .entry)) g) ⌝ }
+{
     let p = put(out, p, b"  ");
-    if g < 32 {
-        let from = name_end(names, 2 * g);
-        let to = name_end(names, 2 * g + 1);
+    if g < names.len() / 2 {
+        let from = names[2 * g] as usize;
+        let to = names[2 * g + 1] as usize;
         return columns::part(out, p, 14, text, from, to);
     }
-    columns::left(out, p, 14, b"?")
-}
-
-fn head(out: &mut [u8], p: Place, code: u64, i: usize) -> Place {
-    let mut room = [0u8; 8];
-    let q = name(&mut room, figures::begin(), code, i);
-    let n = q.at;
-    if n > 8 {
-        return p;
-    }
-    columns::right(out, p, 13, &room[0..n])
-}
-
-fn heads(out: &mut [u8], p: Place, code: u64, values: &[f64]) -> Place {
-    let mut p = p;
-    let mut i = 0usize;
-    while i < values.len() {
-        p = head(out, p, code, i);
-        i += 1;
-    }
-    p
+    columns::left(out, p, 14, b"")
 }
 
 // The decimals of a column whose numbers are about this size: six significant digits.
-fn decimals_for(size: f64) -> u64 {
+fn decimals_for(size: f64) -> u64
+    ensures { λ r. ⌜ r ≡ decimalsFor size ⌝ }
+{
     if size < 1e-5 {
         return 6;
     }
@@ -54,12 +35,16 @@ fn decimals_for(size: f64) -> u64 {
     if d > 0 { d - 1 } else { 0 }
 }
 
-fn larger(m: f64, x: f64) -> f64 {
+fn larger(m: f64, x: f64) -> f64
+    ensures { λ r. ⌜ r ≡ maxOf m (absOf x) ⌝ }
+{
     math::max(m, math::abs(x))
 }
 
 // The largest size in a list.
-fn largest(list: &[f64]) -> f64 {
+fn largest(list: &[f64]) -> f64
+    ensures { λ r. ⌜ r ≡ largestOf (now (list .entry)) ⌝ }
+{
     let mut m = 0.0;
     let mut i = 0usize;
     while i < list.len() {
@@ -69,27 +54,30 @@ fn largest(list: &[f64]) -> f64 {
     m
 }
 
-// The canister's own value: where the effect stands, with it.
-fn own(value: f64, i: usize, place: usize, effect: f64) -> f64 {
-    if i == place {
-        return value + effect;
-    }
-    value
-}
-
-fn own_value(out: &mut [u8], p: Place, value: f64, i: usize, place: usize, effect: f64) -> Place {
+// Value i of a canister: where the effect stands, with it.
+fn own_value(out: &mut [u8], p: Place, place: usize, values: &[f64], effect: f64, i: usize) -> Place
+    ensures { λ r. ⌜ (now (out .exit), r) ≡ wrote (now (out .entry)) p (ownText place (now (values .entry)) effect i) ⌝ }
+{
+    let value = math::at(values, i);
     let d = decimals_for(math::abs(value));
-    columns::fixed(out, p, 13, own(value, i, place, effect), d)
+    if i == place {
+        return columns::fixed(out, p, 13, value + effect, d);
+    }
+    columns::fixed(out, p, 13, value, d)
 }
 
-fn row(out: &mut [u8], p: Place, place: usize, values: &[f64], effect: f64) -> Place {
-    let mut p = p;
+fn own_values(out: &mut [u8], p: Place, place: usize, values: &[f64], effect: f64) -> Place
+    ensures { λ r. ⌜
+        (now (out .exit), r)
+        ≡ wrote (now (out .entry)) p (each (ownText place (now (values .entry)) effect) (length (now (values .entry)))) ⌝ }
+{
+    let mut q = p;
     let mut i = 0usize;
     while i < values.len() {
-        p = own_value(out, p, math::at(values, i), i, place, effect);
+        q = own_value(out, q, place, values, effect, i);
         i += 1;
     }
-    p
+    q
 }
 
 fn canister_row(
@@ -99,19 +87,19 @@ fn canister_row(
     text: &[u8],
     names: &[u64],
     values: &[f64],
+    b: &[f64],
     g: usize,
-    effect: f64,
-) -> Place {
-    let p = canister(out, p, text, names, g);
+) -> Place
+    ensures { λ r. ⌜
+        (now (out .exit), r)
+        ≡ wrote (now (out .entry)) p
+        (canisterRow place (now (text .entry)) (now (names .entry)) (now (values .entry)) (now (b .entry)) g) ⌝ }
+{
+    let effect = math::at(b, g);
     let d = decimals_for(math::abs(math::at(values, place)));
+    let p = canister(out, p, text, names, g);
     let p = columns::fixed(out, p, 13, effect, d);
-    let p = row(out, p, place, values, effect);
-    put(out, p, b"\n")
-}
-
-fn canister_heads(out: &mut [u8], p: Place, code: u64, values: &[f64]) -> Place {
-    let p = put(out, p, b"  canister             effect");
-    let p = heads(out, p, code, values);
+    let p = own_values(out, p, place, values, effect);
     put(out, p, b"\n")
 }
 
@@ -123,14 +111,20 @@ fn canister_rows(
     names: &[u64],
     values: &[f64],
     b: &[f64],
-) -> Place {
-    let mut p = p;
+) -> Place
+    ensures { λ r. ⌜
+        (now (out .exit), r)
+        ≡ wrote (now (out .entry)) p
+        (each (canisterRow place (now (text .entry)) (now (names .entry)) (now (values .entry)) (now (b .entry)))
+        (length (now (b .entry)))) ⌝ }
+{
+    let mut q = p;
     let mut g = 0usize;
     while g < b.len() {
-        p = canister_row(out, p, place, text, names, values, g, math::at(b, g));
+        q = canister_row(out, q, place, text, names, values, b, g);
         g += 1;
     }
-    p
+    q
 }
 
 pub fn canisters(
@@ -142,51 +136,52 @@ pub fn canisters(
     names: &[u64],
     values: &[f64],
     b: &[f64],
-) -> Place {
-    let p = canister_heads(out, p, code, values);
+) -> Place
+    ensures { λ r. ⌜
+        (now (out .exit), r)
+        ≡ wrote (now (out .entry)) p
+        (canistersText code place (now (text .entry)) (now (names .entry)) (now (values .entry)) (now (b .entry))) ⌝ }
+{
+    let p = put(
+        out,
+        p,
+        b"\nEach canister's own curve\n  canister             effect",
+    );
+    let p = word(
+        out,
+        p,
+        b"\n         Asym         xmid         scal\n         Asym           R0          lrc\n           Vm            K\n            A            B         xmid         scal\n",
+        code,
+    );
+    let p = put(out, p, b"\n");
     canister_rows(out, p, place, text, names, values, b)
-}
-
-fn weighed(
-    out: &mut [u8],
-    p: Place,
-    text: &[u8],
-    names: &[u64],
-    g: usize,
-    dose: f64,
-    grams: f64,
-) -> Place {
-    let p = canister(out, p, text, names, g);
-    let p = columns::figure(out, p, 13, dose);
-    columns::figure(out, p, 13, grams)
-}
-
-fn compared(out: &mut [u8], p: Place, grams: f64, says: f64, d: u64) -> Place {
-    let p = columns::fixed(out, p, 13, says, d);
-    let p = columns::fixed(out, p, 14, grams - says, d);
-    put(out, p, b"\n")
 }
 
 // What was weighed, what the curve says, and the difference.
 fn reading_row(
     out: &mut [u8],
     p: Place,
-    code: u64,
-    place: usize,
     text: &[u8],
     names: &[u64],
-    values: &[f64],
-    b: &[f64],
     g: usize,
     dose: f64,
     grams: f64,
+    says: f64,
     d: u64,
-) -> Place {
-    let p = weighed(out, p, text, names, g, dose, grams);
-    compared(out, p, grams, curve_at(code, place, values, b, g, dose), d)
+) -> Place
+    ensures { λ r. ⌜
+        (now (out .exit), r)
+        ≡ wrote (now (out .entry)) p (readingRow (now (text .entry)) (now (names .entry)) g dose grams says d) ⌝ }
+{
+    let p = canister(out, p, text, names, g);
+    let p = columns::figure(out, p, 13, dose);
+    let p = columns::figure(out, p, 13, grams);
+    let p = columns::fixed(out, p, 13, says, d);
+    let p = columns::fixed(out, p, 14, grams - says, d);
+    put(out, p, b"\n")
 }
 
-// Reading i; nothing past the last one.
+// Reading i.
 fn reading(
     out: &mut [u8],
     p: Place,
@@ -195,32 +190,22 @@ fn reading(
     text: &[u8],
     doses: &[f64],
     grams: &[f64],
-    group: &[usize],
     names: &[u64],
     values: &[f64],
     b: &[f64],
     d: u64,
+    g: usize,
     i: usize,
-) -> Place {
-    if i < group.len() {
-        let g = group[i];
-        let dose = math::at(doses, i);
-        return reading_row(
-            out,
-            p,
-            code,
-            place,
-            text,
-            names,
-            values,
-            b,
-            g,
-            dose,
-            math::at(grams, i),
-            d,
-        );
-    }
-    p
+) -> Place
+    ensures { λ r. ⌜
+        (now (out .exit), r)
+        ≡ wrote (now (out .entry)) p
+        (readingAt code place (now (text .entry)) (now (doses .entry)) (now (grams .entry)) (now (names .entry))
+        (now (values .entry)) (now (b .entry)) d g i) ⌝ }
+{
+    let dose = math::at(doses, i);
+    let says = curve_at(code, place, values, b, g, dose);
+    reading_row(out, p, text, names, g, dose, math::at(grams, i), says, d)
 }
 
 fn reading_rows(
@@ -236,28 +221,37 @@ fn reading_rows(
     values: &[f64],
     b: &[f64],
     d: u64,
-) -> Place {
-    let mut p = p;
+) -> Place
+    ensures { λ r. ⌜
+        (now (out .exit), r)
+        ≡ wrote (now (out .entry)) p
+        (each
+        (λ i.
+        readingAt code place (now (text .entry)) (now (doses .entry)) (now (grams .entry)) (now (names .entry))
+        (now (values .entry)) (now (b .entry)) d (getD (now (group .entry)) i 0) i)
+        (length (now (group .entry)))) ⌝ }
+{
+    let mut q = p;
     let mut i = 0usize;
     while i < group.len() {
-        p = reading(
+        q = reading(
             out,
-            p,
+            q,
             code,
             place,
             text,
             doses,
             grams,
-            group,
             names,
             values,
             b,
             d,
+            group[i],
             i,
         );
         i += 1;
     }
-    p
+    q
 }
 
 pub fn readings(
@@ -272,11 +266,18 @@ pub fn readings(
     names: &[u64],
     values: &[f64],
     b: &[f64],
-) -> Place {
+) -> Place
+    ensures { λ r. ⌜
+        (now (out .exit), r)
+        ≡ wrote (now (out .entry)) p
+        (readingsText code place (now (text .entry)) (now (doses .entry)) (now (grams .entry)) (now (group .entry))
+        (now (names .entry)) (now (values .entry)) (now (b .entry))) ⌝ }
+{
+    let d = decimals_for(largest(grams));
     let p = put(
         out,
         p,
-        b"  canister               dose      weighed   curve says    difference\n",
+        b"\nEach reading\n  canister               dose      weighed   curve says    difference\n",
     );
     reading_rows(
         out,
@@ -290,6 +291,6 @@ pub fn readings(
         names,
         values,
         b,
-        decimals_for(largest(grams)),
+        d,
     )
 }

@@ -1,22 +1,23 @@
--- The measure is what is left of the list; each turn keeps the length of the buffer. Assumes nothing.
+-- The lines passed are written. Assumes nothing.
 use mathlib.Core.Path.{_≡_}
-use Prim.Native.Nat.{_-_}
-use borrow.Author.Needs.{needs}
+use Prim.Native.Nat.{_≤_, _-_}
+use native.Mathlib.Omega.{arith}
 use lib.ListN.{length}
+use Rattle.figures.specs.Text.{wrote}
+use Rattle.refit_report.proofs.Laws.{each-none, each-more, each-all}
+use Rattle.refit_report.specs.Tables.{each, canisterRow}
+use borrow.Author.Needs.{needs}
 use Rattle.refit_report.proofs.tables.canister_rows.Statement.{statement}
 use Rattle.refit_report.proofs.tables.canister_rows.Tie as tie
 
 abbrev Inv-loop : tie.InvT-loop
-Inv-loop out₀ place text names values b p₀ g₀ out p g = length out ≡ length out₀
+Inv-loop out₀ place text names values b q₀ g₀ out q g = (((g ≤ length b) × (length out ≡ length out₀)) × ((out, q) ≡ wrote out₀ q₀ (each (canisterRow place text names values b) g)))
 
 abbrev μ-loop : tie.MeasureT-loop
-μ-loop out₀ place text names values b p₀ g₀ out p g = length b - g
+μ-loop out₀ place text names values b q₀ g₀ out q g = length b - g
 
 loop-holds : tie.Need-loop-holds Inv-loop μ-loop
-loop-holds c = search needs
-
-at-requires : tie.Need-at-requires Inv-loop μ-loop
-at-requires c κs = search needs
+loop-holds c = (search needs, each-none _ _ _)
 
 canister-row-requires : tie.Need-canister-row-requires Inv-loop μ-loop
 canister-row-requires c κs = search needs
@@ -28,13 +29,13 @@ loop-less : tie.Need-loop-less Inv-loop μ-loop
 loop-less c = search needs
 
 loop-again : tie.Need-loop-again Inv-loop μ-loop
-loop-again c = search needs
+loop-again c = (search needs, each-more _ _ _ _ _ _ _ (c .before .before .before .before .before .loop .inv .1) (c .before .before .canister-row .ensures))
 
 same-length : tie.Need-same-length Inv-loop μ-loop
 same-length c = search needs
 
 returns : tie.Need-returns Inv-loop μ-loop
-returns c = search needs
+returns c = let so-far = c .before .loop .inv in each-all _ _ _ _ _ _ (so-far .1) (so-far .0 .0) (omega arith)
 
 pub canister-rows-spec : {M : Type 1} → statement M
-canister-rows-spec = tie.close (tie.spec Inv-loop μ-loop loop-holds at-requires canister-row-requires add-g loop-less loop-again same-length returns)
+canister-rows-spec = tie.close (tie.spec Inv-loop μ-loop loop-holds canister-row-requires add-g loop-less loop-again same-length returns)
