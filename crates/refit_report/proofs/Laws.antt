@@ -1,4 +1,4 @@
--- Lines one by one; the lists that a run lends. Assumes nothing.
+-- The lists that a run lends. Assumes nothing.
 use Prim.Native.Nat.{ℕ, zero, suc, _+_, _-_, _≤_, _<_}
 use mathlib.Core.Path.{_≡_, refl, sym, ap, _∙_}
 use mathlib.Core.Bool.{Bool, true, false, cond}
@@ -13,29 +13,8 @@ use lib.ListN.{length, take, set, getD, replicate}
 use lib.Seq.{paste, paste-suc, take-at, length-paste-head}
 use Rattle.math.specs.Basic as Basic
 use Rattle.curves.specs.MeanFn.{nParamsOf}
-use Rattle.figures.specs.declared.Place.{Place}
-use Rattle.figures.specs.Text.{wrote}
-use Rattle.figures.specs.Laws.{wrote-none, then}
 use Rattle.refit_options.specs.declared.options.Options.{Options}
-use Rattle.refit_report.specs.Tables.{each}
 use Rattle.refit_report.specs.Run.{Ran, answerOf, faultOf, runOf}
-
-pub nothing : (l : List ℕ) (p : Place) → (l, p) ≡ wrote l p []
-nothing l p = sym (wrote-none l p)
-
--- the lines before the first; one more; all of them
-module _ (line : ℕ → List ℕ) (l : List ℕ) (p : Place) where
-  pub each-none : (l, p) ≡ wrote l p (each line 0)
-  unfolding each
-  each-none = nothing l p
-
-  pub each-more : (i : ℕ) (m : List ℕ) (q : Place) (w : List ℕ × Place) → (m, q) ≡ wrote l p (each line i) → w ≡ wrote m q (line i)
-      → w ≡ wrote l p (each line (i + 1))
-  unfolding each
-  each-more i m q w e f = rw add-one (then l m p q (each line i) (line i) w e f)
-
-  pub each-all : (i n : ℕ) (w : List ℕ × Place) → w ≡ wrote l p (each line i) → i ≤ n → n ≤ i → w ≡ wrote l p (each line n)
-  each-all i n w e a b = let same : i ≡ n = omega arith in rw same at e
 
 -- one number more is copied
 pub pasted : (d s : List ℕ) (i : ℕ) → i < length d → i < length s → set (paste d 0 s i) i (getD s i 0) ≡ paste d 0 s (i + 1)

@@ -11,20 +11,16 @@ use Rattle.figures.specs.Text.{bytes}
 use Rattle.figures.specs.Lines.{wordOf, filled}
 use Rattle.refit_calculation.specs.declared.Answer.{Answer}
 use Rattle.refit_options.specs.declared.options.Options.{Options}
-use Rattle.refit_options.specs.Words.{nameText}
+use Rattle.refit_options.specs.Words.{nameText, refusalText}
+use Rattle.refit_options.specs.Words as Words
 use Rattle.refit_report.specs.Tables.{canistersText, readingsText}
 
 -- ---- what was asked
 
-abbrev pub curves : List ℕ
-curves =
-    bytes
-    "\nSSlogis: grams = Asym / (1 + exp((xmid - dose) / scal))\nSSasymp: grams = Asym + (R0 - Asym) * exp(-exp(lrc) * dose)\nSSmicmen: grams = Vm * dose / (K + dose)\nSSfpl: grams = A + (B - A) / (1 + exp((xmid - dose) / scal))\n"
-
 unfoldable pub askedText : ℕ → ℕ → ℕ → ℕ → List ℕ
 askedText code place n groups =
     filled (bytes "Refit\n  readings      %n, of %n canisters\n  curve         ") (n ∷ groups ∷ []) []
-    ++ (wordOf code curves
+    ++ (Words.curveText code
     ++ (bytes "\n  effect        each canister has its own "
     ++ (nameText code place
     ++ bytes "\n")))
@@ -127,17 +123,12 @@ curveText code values =
 abbrev pub stages : List ℕ
 stages = bytes "\nstart values\nsearch\nfit\n"
 
-abbrev pub refusals : List ℕ
-refusals =
-    bytes
-    "\nno such curve\nno readings, more than 512, or lists of unequal lengths\nno canisters or more than 32\na reading of a canister that is not there\nthe effect is not a value of the curve\na list of starts, bounds or theta has a wrong length\na reading, a start value or theta is not a finite number, or a bound is none\na lower bound above its upper one\na list for the answer has a wrong length\ntoo many rounds or narrowings, or two effects\n"
-
 unfoldable pub refusedText : ℕ → ℕ → List ℕ
 refusedText stage number =
     bytes "\n*** REFUSED: no "
     ++ (wordOf stage stages
     ++ (filled (bytes ". The library answers number %n: ") (number ∷ []) []
-    ++ (wordOf number refusals
+    ++ (refusalText number
     ++ bytes " ***\n")))
 
 -- ---- all of it

@@ -1,5 +1,5 @@
 -- The two tables of a report: each canister's own curve, and each reading beside its curve. Definitions only.
-use Prim.Native.Nat.{ℕ, zero, suc, _+_, _-_, _*_, _/_}
+use Prim.Native.Nat.{ℕ, _+_, _-_, _*_, _/_}
 use mathlib.Core.Bool.{Bool, cond}
 use mathlib.Core.List.{List, [], _∷_, _++_}
 use lib.Dec.{eqb, ltb}
@@ -13,11 +13,7 @@ use Rattle.figures.specs.Text.{bytes}
 use Rattle.figures.specs.Lines.{leftText, cellText, wordOf}
 use Rattle.figures.specs.Floats.{decimalsOf, fixedText, figureText}
 use Rattle.picture.specs.Ranges.{curveAt}
-
--- the lines 0 to n - 1
-unfoldable pub each : (ℕ → List ℕ) → ℕ → List ℕ
-each line zero = []
-each line (suc n) = each line n ++ line n
+use Rattle.picture.specs.Escape.{each}
 
 -- canister g's name stands in the text from names[2g] to names[2g + 1]
 unfoldable pub canisterText : List ℕ → List ℕ → ℕ → List ℕ

@@ -2,8 +2,8 @@
 use figures::Place;
 use figures::put;
 use figures::template::fill;
-use figures::words::word;
 use refit_options::options::Options;
+use refit_options::words::curve;
 use refit_options::words::name;
 ghost use mathlib.Core.Path.{_≡_};
 ghost use mathlib.Core.Bool.{cond};
@@ -41,12 +41,7 @@ fn asked(out: &mut [u8], p: Place, code: u64, place: usize, n: usize, groups: us
         &counts,
         &[],
     );
-    let p = word(
-        out,
-        p,
-        b"\nSSlogis: grams = Asym / (1 + exp((xmid - dose) / scal))\nSSasymp: grams = Asym + (R0 - Asym) * exp(-exp(lrc) * dose)\nSSmicmen: grams = Vm * dose / (K + dose)\nSSfpl: grams = A + (B - A) / (1 + exp((xmid - dose) / scal))\n",
-        code,
-    );
+    let p = curve(out, p, code);
     let p = put(out, p, b"\n  effect        each canister has its own ");
     let p = name(out, p, code, place);
     put(out, p, b"\n")

@@ -11,6 +11,7 @@ use figures::words::word;
 use refit_calculation::Answer;
 use refit_options::options::Options;
 use refit_options::words::name;
+use refit_options::words::refusal;
 ghost use mathlib.Core.Path.{_≡_};
 ghost use Rattle.figures.specs.Text.{start, wrote};
 ghost use Rattle.refit_report.specs.Report.{valuesText, startsText, thetaText, spreadText, convergedText, fitText, isStep, curveText, refusedText, resultsText, reportText};
@@ -163,12 +164,7 @@ fn refused(out: &mut [u8], p: Place, stage: u64, number: u64) -> Place
     let p = put(out, p, b"\n*** REFUSED: no ");
     let p = word(out, p, b"\nstart values\nsearch\nfit\n", stage);
     let p = fill(out, p, b". The library answers number %n: ", &[number], &[]);
-    let p = word(
-        out,
-        p,
-        b"\nno such curve\nno readings, more than 512, or lists of unequal lengths\nno canisters or more than 32\na reading of a canister that is not there\nthe effect is not a value of the curve\na list of starts, bounds or theta has a wrong length\na reading, a start value or theta is not a finite number, or a bound is none\na lower bound above its upper one\na list for the answer has a wrong length\ntoo many rounds or narrowings, or two effects\n",
-        number,
-    );
+    let p = refusal(out, p, number);
     put(out, p, b" ***\n")
 }
 

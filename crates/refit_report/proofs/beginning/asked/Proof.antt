@@ -17,11 +17,8 @@ slice-aggregate-fill-3 c = search needs
 fill-requires : tie.Need-fill-requires
 fill-requires c κs = search needs
 
-slice-aggregate-word : tie.Need-slice-aggregate-word
-slice-aggregate-word c = search needs
-
-word-requires : tie.Need-word-requires
-word-requires c κs = search needs
+curve-requires : tie.Need-curve-requires
+curve-requires c κs = search needs
 
 slice-aggregate-put : tie.Need-slice-aggregate-put
 slice-aggregate-put c = search needs
@@ -43,7 +40,7 @@ same-length c = search needs
 
 returns : tie.Need-returns
 unfolding askedText
-returns c = then _ _ _ _ _ _ _ (c .before .before .before .before .before .before .before .before .before .before .before .before .before .before .before .before .before .before .before .before .before .fill .ensures) (then _ _ _ _ _ _ _ (c .before .before .before .before .before .before .before .before .before .before .before .before .before .before .before .before .word .ensures) (then _ _ _ _ _ _ _ (c .before .before .before .before .before .before .before .before .before .before .before .put .ensures) (then _ _ _ _ _ _ _ (c .before .before .before .before .before .before .before .name .ensures) (c .before .before .put2 .ensures))))
+returns c = then _ _ _ _ _ _ _ (c .before .before .before .before .before .before .before .before .before .before .before .before .before .before .before .before .before .before .before .before .fill .ensures) (then _ _ _ _ _ _ _ (c .before .before .before .before .before .before .before .before .before .before .before .before .before .before .before .before .curve .ensures) (then _ _ _ _ _ _ _ (c .before .before .before .before .before .before .before .before .before .before .before .put .ensures) (then _ _ _ _ _ _ _ (c .before .before .before .before .before .before .before .name .ensures) (c .before .before .put2 .ensures))))
 
 pub asked-spec : {M : Type 1} → statement M
-asked-spec = tie.close (tie.spec slice-aggregate-fill slice-aggregate-fill-2 slice-aggregate-fill-3 fill-requires slice-aggregate-word word-requires slice-aggregate-put put-requires name-requires slice-aggregate-put-2 put-requires-2 same-length returns)
+asked-spec = tie.close (tie.spec slice-aggregate-fill slice-aggregate-fill-2 slice-aggregate-fill-3 fill-requires curve-requires slice-aggregate-put put-requires name-requires slice-aggregate-put-2 put-requires-2 same-length returns)

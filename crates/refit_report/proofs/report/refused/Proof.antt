@@ -29,11 +29,8 @@ slice-aggregate-fill-3 c = search needs
 fill-requires : tie.Need-fill-requires
 fill-requires c κs = search needs
 
-slice-aggregate-word-2 : tie.Need-slice-aggregate-word-2
-slice-aggregate-word-2 c = search needs
-
-word-requires-2 : tie.Need-word-requires-2
-word-requires-2 c κs = search needs
+refusal-requires : tie.Need-refusal-requires
+refusal-requires c κs = search needs
 
 slice-aggregate-put-2 : tie.Need-slice-aggregate-put-2
 slice-aggregate-put-2 c = search needs
@@ -46,7 +43,7 @@ same-length c = search needs
 
 returns : tie.Need-returns
 unfolding refusedText
-returns c = then _ _ _ _ _ _ _ (c .before .before .before .before .before .before .before .before .before .before .before .before .before .before .before .before .before .before .before .before .before .before .before .before .put .ensures) (then _ _ _ _ _ _ _ (c .before .before .before .before .before .before .before .before .before .before .before .before .before .before .before .before .before .before .before .word .ensures) (then _ _ _ _ _ _ _ (c .before .before .before .before .before .before .before .before .before .before .before .before .fill .ensures) (then _ _ _ _ _ _ _ (c .before .before .before .before .before .before .before .word2 .ensures) (c .before .before .put2 .ensures))))
+returns c = then _ _ _ _ _ _ _ (c .before .before .before .before .before .before .before .before .before .before .before .before .before .before .before .before .before .before .before .before .before .before .before .put .ensures) (then _ _ _ _ _ _ _ (c .before .before .before .before .before .before .before .before .before .before .before .before .before .before .before .before .before .before .word .ensures) (then _ _ _ _ _ _ _ (c .before .before .before .before .before .before .before .before .before .before .before .fill .ensures) (then _ _ _ _ _ _ _ (c .before .before .before .before .before .before .before .refusal .ensures) (c .before .before .put2 .ensures))))
 
 pub refused-spec : {M : Type 1} → statement M
-refused-spec = tie.close (tie.spec slice-aggregate-put put-requires slice-aggregate-word word-requires slice-aggregate-fill slice-aggregate-fill-2 slice-aggregate-fill-3 fill-requires slice-aggregate-word-2 word-requires-2 slice-aggregate-put-2 put-requires-2 same-length returns)
+refused-spec = tie.close (tie.spec slice-aggregate-put put-requires slice-aggregate-word word-requires slice-aggregate-fill slice-aggregate-fill-2 slice-aggregate-fill-3 fill-requires refusal-requires slice-aggregate-put-2 put-requires-2 same-length returns)
