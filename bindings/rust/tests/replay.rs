@@ -50,15 +50,19 @@ fn all_same(x: &[f64], y: &[f64]) -> bool {
     x.len() == y.len() && x.iter().zip(y).all(|(&x, &y)| same(x, y))
 }
 
-/// Each line's case and answer. `replayed` says whether the types can express the case; it compares by itself.
-fn replay(program: &str, replayed: impl Fn(&mut Words, &mut Words) -> bool) -> (usize, usize) {
+/// The case and the answer of each line of these operations. `replayed` says whether the types can express the case; it
+/// compares by itself.
+fn replay(program: &str, operations: &[&str], replayed: impl Fn(&mut Words, &mut Words) -> bool) -> (usize, usize) {
     let stored = Path::new(env!("CARGO_MANIFEST_DIR"))
         .join("../../crates")
         .join(program)
         .join("stdin");
     let text = std::fs::read_to_string(&stored).unwrap_or_else(|e| panic!("{}: {e}", stored.display()));
     let mut counts = (0, 0);
-    for line in text.lines() {
+    for line in text
+        .lines()
+        .filter(|line| operations.contains(&Words::new(line).word()))
+    {
         let (case, answer) = line.split_once(" = ").expect("an answer line");
         match replayed(&mut Words::new(case), &mut Words::new(answer)) {
             true => counts.0 += 1,
@@ -70,7 +74,7 @@ fn replay(program: &str, replayed: impl Fn(&mut Words, &mut Words) -> bool) -> (
 
 #[test]
 fn strictmath() {
-    let counts = replay("replay_math", |case, answer| {
+    let counts = replay("replay_math", &["exp", "ln", "sqrt"], |case, answer| {
         let function = match case.word() {
             "exp" => kemroul::exp,
             "ln" => kemroul::ln,
@@ -86,7 +90,7 @@ fn strictmath() {
 
 #[test]
 fn curves_and_orders() {
-    let counts = replay("replay_curve", |case, answer| {
+    let counts = replay("replay_curve", &["curve", "gh_order"], |case, answer| {
         if case.word() == "gh_order" {
             assert_eq!(kemroul::gh_order(case.whole()).unwrap_or(0), answer.whole());
             return true;
@@ -108,8 +112,8 @@ fn curves_and_orders() {
 
 #[test]
 fn starts() {
-    let counts = replay("replay_start", |case, answer| {
-        assert_eq!(case.word(), "start");
+    let counts = replay("replay_start", &["start"], |case, answer| {
+        case.word();
         let (code, doses, grams, n) = (case.whole(), case.floats(), case.floats(), case.whole() as usize);
         let (number, written) = (answer.whole(), answer.floats());
         let mut values = vec![f64::from_bits(KEPT); n];
@@ -121,17 +125,18 @@ fn starts() {
     assert!(counts.0 > 500 && counts.1 == 0);
 }
 
-/// A case of fit or criterion with its arguments, where the types can express it.
+/// What the cases of fit, criterion and search share, where the types can express it.
 struct Case {
     code: u64,
     lists: [Vec<f64>; 7],
     groups: Vec<u64>,
     group_count: u64,
     effects: Effects,
-    theta: Theta,
 }
 
+/// The case after its operation's name.
 fn case_of(case: &mut Words) -> Option<Case> {
+    case.word();
     let (code, doses, grams, groups, group_count) =
         (case.whole(), case.floats(), case.floats(), case.wholes(), case.whole());
     let effects = match case.wholes()[..] {
@@ -148,19 +153,28 @@ fn case_of(case: &mut Words) -> Option<Case> {
         case.floats(),
         case.floats(),
     ];
-    let theta = match case.floats()[..] {
-        [a] => Some(Theta::One(a)),
-        [a, b, c] => Some(Theta::Two([a, b, c])),
-        _ => None,
-    };
     Some(Case {
         code,
         lists,
         groups,
         group_count,
         effects: effects?,
-        theta: theta?,
     })
+}
+
+fn theta_of(case: &mut Words) -> Option<Theta> {
+    match case.floats()[..] {
+        [a] => Some(Theta::One(a)),
+        [a, b, c] => Some(Theta::Two([a, b, c])),
+        _ => None,
+    }
+}
+
+fn likelihood_of(reml: u64) -> Likelihood {
+    match reml {
+        0 => Likelihood::Ml,
+        _ => Likelihood::Reml,
+    }
 }
 
 impl Case {
@@ -188,14 +202,15 @@ fn lent(case: &mut Words) -> [Vec<f64>; 2] {
 
 #[test]
 fn fits() {
-    let (replayed, left) = replay("replay_fit", |case, answer| {
-        assert_eq!(case.word(), "fit");
-        let Some(c) = case_of(case) else { return false };
+    let (replayed, left) = replay("replay_problem", &["fit"], |case, answer| {
+        let (Some(c), Some(theta)) = (case_of(case), theta_of(case)) else {
+            return false;
+        };
         let max_rounds = case.whole();
         let [mut values, mut effects] = lent(case);
         let answered = c
             .problem()
-            .and_then(|p| p.fit(&c.theta, max_rounds, &mut values, &mut effects));
+            .and_then(|p| p.fit(&theta, max_rounds, &mut values, &mut effects));
         assert_eq!(answered.map_or_else(Refusal::number, |_| 0), answer.whole());
         assert!(all_same(&values, &answer.floats()) && all_same(&effects, &answer.floats()));
         let (rss, rest) = (answer.float(), [answer.whole(), answer.whole(), answer.whole()]);
@@ -211,21 +226,45 @@ fn fits() {
 
 #[test]
 fn criteria() {
-    let (replayed, left) = replay("replay_criterion", |case, answer| {
-        assert_eq!(case.word(), "criterion");
-        let Some(c) = case_of(case) else { return false };
+    let (replayed, left) = replay("replay_problem", &["criterion"], |case, answer| {
+        let (Some(c), Some(theta)) = (case_of(case), theta_of(case)) else {
+            return false;
+        };
         let (max_rounds, reml, n_agq) = (case.whole(), case.whole(), case.whole());
-        let likelihood = if reml == 0 { Likelihood::Ml } else { Likelihood::Reml };
+        let likelihood = likelihood_of(reml);
         let [mut values, mut effects] = lent(case);
         let answered = c
             .problem()
-            .and_then(|p| p.criterion(&c.theta, max_rounds, likelihood, n_agq, &mut values, &mut effects));
+            .and_then(|p| p.criterion(&theta, max_rounds, likelihood, n_agq, &mut values, &mut effects));
         assert_eq!(answered.map_or_else(Refusal::number, |_| 0), answer.whole());
         assert!(all_same(&values, &answer.floats()) && all_same(&effects, &answer.floats()));
         let rest = [answer.float(), answer.float()];
         match answered {
             Ok(found) => assert!(all_same(&[found.criterion, found.sigma2], &rest)),
             Err(_) => assert!(rest.iter().all(|x| x.to_bits() == KEPT)),
+        }
+        true
+    });
+    assert!(replayed > 350 && left < 40, "{replayed} {left}");
+}
+
+#[test]
+fn searches() {
+    let (replayed, left) = replay("replay_problem", &["search"], |case, answer| {
+        let Some(c) = case_of(case) else { return false };
+        let (max_rounds, reml, n_agq, max_narrowings) = (case.whole(), case.whole(), case.whole(), case.whole());
+        let answered = c
+            .problem()
+            .and_then(|p| p.search(max_rounds, likelihood_of(reml), n_agq, max_narrowings));
+        assert_eq!(answered.map_or_else(Refusal::number, |_| 0), answer.whole());
+        let floats = [answer.float(), answer.float()];
+        let counts = [answer.whole(), answer.whole(), answer.whole()];
+        match answered {
+            Ok(found) => {
+                assert!(all_same(&[found.theta, found.criterion], &floats));
+                assert_eq!([found.narrowings, u64::from(found.converged), found.fits], counts);
+            }
+            Err(_) => assert!(floats.iter().all(|x| x.to_bits() == KEPT) && counts == [KEPT_WHOLE; 3]),
         }
         true
     });

@@ -10,6 +10,7 @@ use cases::cursor::finished;
 use cases::cursor::float;
 use cases::cursor::named;
 use cases::cursor::whole;
+use cases::lent::kept;
 use cases::tally::Tally;
 use cases::tally::Verdict;
 use curves::Answer;
@@ -21,13 +22,12 @@ struct Outputs {
     floats: [f64; 5],
 }
 
-// The five places hold 4010dead0000beef before the call, and a refusal keeps it.
+// A refusal keeps what the five places hold before the call.
 fn answered(code: u64, values: &[f64], dose: f64) -> Outputs {
-    let kept = math::words::of_bits(0x4010_dead_0000_beef);
     match curves::curve(code, values, dose) {
         Answer::Refused(n) => Outputs {
             number: n,
-            floats: [kept; 5],
+            floats: [kept(); 5],
         },
         Answer::Value(m) => Outputs {
             number: 0,

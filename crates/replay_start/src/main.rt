@@ -8,6 +8,7 @@ use cases::cursor::begin;
 use cases::cursor::finished;
 use cases::cursor::named;
 use cases::cursor::whole;
+use cases::lent::kept;
 use cases::lists::floats;
 use cases::tally::Tally;
 use cases::tally::Verdict;
@@ -38,11 +39,9 @@ fn same_call(
     cases::same::same_floats(values, stored)
 }
 
-// The same for a list of as many values as are stored. Each holds 4010dead0000beef before the call,
-// and a refusal keeps it.
+// The same for a list of as many values as are stored. A refusal keeps what it holds before the call.
 fn agrees(code: u64, doses: &[f64], grams: &[f64], number: u64, stored: &[f64]) -> bool {
-    let kept = math::words::of_bits(0x4010_dead_0000_beef);
-    let mut values = [kept; 8];
+    let mut values = [kept(); 8];
     let len = stored.len();
     if len > 8 {
         return false;

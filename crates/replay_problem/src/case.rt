@@ -1,19 +1,18 @@
-// Reads a line after `search`, a few lists at a time, and lends what it has read to the next function;
-// the last one calls the search and compares. A fault in the line stays in the place and is asked for
-// before the call. Lists that are too long are malformed: more than 520 readings, 8 of all else.
-use crate::answer::same_told;
-use crate::answer::stored_at;
-use crate::answer::told_of;
+// Reads a case, a few lists at a time, and lends what it has read to the next function; the last one
+// judges the call. A fault in the line stays in the place and is asked for before the call. Lists that
+// are too long are malformed: more than 520 readings, 80 effects in an answer, 8 of all else.
+use crate::criteria::judge_criterion;
+use crate::fits::judge_fit;
+use crate::searches::judge_search;
 use cases::cursor::Cursor;
-use cases::cursor::finished;
 use cases::cursor::whole;
 use cases::lists::floats;
 use cases::lists::wholes;
 use cases::tally::Verdict;
-use cases::tally::verdict_of;
 
-// The rounds, the flag and the order, the narrowings and the answer.
-fn judge_answer(
+// What is left of the line of operation `op`: 0 a fit, 1 a criterion, 2 a search.
+fn judge_call(
+    op: usize,
     line: &[u8],
     c: Cursor,
     code: u64,
@@ -28,15 +27,43 @@ fn judge_answer(
     group_lower: &[f64],
     group_upper: &[f64],
 ) -> Verdict {
-    let max_rounds = whole(line, c);
-    let reml = whole(line, max_rounds.next);
-    let n_agq = whole(line, reml.next);
-    let max_narrowings = whole(line, n_agq.next);
-    let s = stored_at(line, max_narrowings.next);
-    if !finished(line, s.next) {
-        return Verdict::Malformed;
+    if op == 0 {
+        return judge_fit(
+            line,
+            c,
+            code,
+            doses,
+            grams,
+            group,
+            groups,
+            effects,
+            starts,
+            lower,
+            upper,
+            group_lower,
+            group_upper,
+        );
     }
-    let answer = golden::search(
+    if op == 1 {
+        return judge_criterion(
+            line,
+            c,
+            code,
+            doses,
+            grams,
+            group,
+            groups,
+            effects,
+            starts,
+            lower,
+            upper,
+            group_lower,
+            group_upper,
+        );
+    }
+    judge_search(
+        line,
+        c,
         code,
         doses,
         grams,
@@ -48,15 +75,11 @@ fn judge_answer(
         upper,
         group_lower,
         group_upper,
-        max_rounds.value,
-        reml.value != 0,
-        n_agq.value,
-        max_narrowings.value,
-    );
-    verdict_of(0, same_told(told_of(answer), s.told))
+    )
 }
 
 fn judge_bounds(
+    op: usize,
     line: &[u8],
     c: Cursor,
     code: u64,
@@ -79,7 +102,8 @@ fn judge_bounds(
     let nu = u.len;
     let ngl = gl.len;
     let ngu = gu.len;
-    judge_answer(
+    judge_call(
+        op,
         line,
         gu.next,
         code,
@@ -98,6 +122,7 @@ fn judge_bounds(
 
 // The number of groups, the values that have effects, and the starts.
 fn judge_effects(
+    op: usize,
     line: &[u8],
     c: Cursor,
     code: u64,
@@ -113,6 +138,7 @@ fn judge_effects(
     let k = e.len;
     let p = s.len;
     judge_bounds(
+        op,
         line,
         s.next,
         code,
@@ -126,7 +152,7 @@ fn judge_effects(
 }
 
 // The curve and the readings.
-pub fn judge_readings(line: &[u8], c: Cursor) -> Verdict {
+pub fn judge_readings(op: usize, line: &[u8], c: Cursor) -> Verdict {
     let mut doses = [0.0; 520];
     let mut grams = [0.0; 520];
     let mut group = [0usize; 520];
@@ -138,6 +164,7 @@ pub fn judge_readings(line: &[u8], c: Cursor) -> Verdict {
     let m = g.len;
     let k = h.len;
     judge_effects(
+        op,
         line,
         h.next,
         code.value,

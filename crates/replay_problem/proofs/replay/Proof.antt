@@ -3,8 +3,8 @@ use mathlib.Core.Path.{_≡_}
 use borrow.Author.Needs.{needs}
 use lib.ListN.{length}
 use Rattle.cases.specs.Tally.{Sound}
-use Rattle.replay_fit.proofs.replay.Statement.{statement}
-use Rattle.replay_fit.proofs.replay.Tie as tie
+use Rattle.replay_problem.proofs.replay.Statement.{statement}
+use Rattle.replay_problem.proofs.replay.Tie as tie
 
 abbrev Inv-loop : tie.InvT-loop
 Inv-loop buf₀ run₀ tally₀ buf run tally = (length buf ≡ length buf₀) × Sound tally
