@@ -6,7 +6,7 @@ use Rattle.figures.specs.Text.{bytes}
 unfoldable pub helpText : List ℕ
 helpText =
     bytes
-    "refit: fits a dosing curve to weighed doses, with each canister's own curve\n\n  refit [FILE] [options]    fits the readings of FILE; without FILE, R's data set Orange\n  refit help                this text\n\nA line of the file is a reading: dose,grams,canister. The canister is a number or a name. A line that\nbegins with # is a comment; the first line may be a header. At most 512 readings and 32 canisters.\n\n"
+    "refit: fits a dosing curve to weighed doses, with each canister's own curve\n\n  refit [FILE] [options]    fits the readings of FILE; without FILE, R's data set Orange\n  refit help                this text\n\nA line of the file is a reading: dose,grams,canister; a semicolon, a tab or spaces may stand for a comma. A number\nhas up to 15 digits. The canister is a number or a name of up to 32 letters, digits, '-', '.' and '_'. A line that\nbegins with # is a comment; the first line may be a header. At most 512 readings and 32 canisters.\n\n"
     ++ (bytes
     "  --curve SSlogis     Asym / (1 + exp((xmid - dose) / scal)): this one if none is named\n  --curve SSasymp     Asym + (R0 - Asym) * exp(-exp(lrc) * dose)\n  --curve SSmicmen    Vm * dose / (K + dose)\n  --curve SSfpl       A + (B - A) / (1 + exp((xmid - dose) / scal))\n  --effect NAME       the value that each canister has its own of: Asym, R0, K, ..; if none is named the curve's first\n  --ml, --reml        maximum likelihood, if nothing is said, or restricted maximum likelihood\n"
     ++ (bytes

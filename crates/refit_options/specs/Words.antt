@@ -62,7 +62,7 @@ unfoldable pub faultText : ℕ → List ℕ
 faultText number =
     wordOf number
     (bytes
-    "\nnot three fields: dose, grams, canister\nthe dose is not a decimal number\nthe grams are not a decimal number\na number of more than 15 significant digits\na number whose exponent is out of range\nthe canister's name is empty, longer than 32 bytes, or has other signs than a name may have\nmore than 512 readings\nmore than 32 canisters\nthere are no readings\n")
+    "\nnot three fields: dose, grams, canister\nthe dose is not a decimal number\nthe grams are not a decimal number\na number of more than 15 significant digits\na number whose exponent is out of range\nthe canister's name is empty, longer than 32 bytes, or has a sign that is no letter, digit, '-', '.' or '_'\nmore than 512 readings\nmore than 32 canisters\nthere are no readings\n")
 
 -- the same with the line's number; line 0 is none
 unfoldable pub lineFaultText : ℕ → ℕ → List ℕ

@@ -11,7 +11,7 @@ pub fn help(out: &mut [u8], p: Place) -> Place
     let p = put(
         out,
         p,
-        b"refit: fits a dosing curve to weighed doses, with each canister's own curve\n\n  refit [FILE] [options]    fits the readings of FILE; without FILE, R's data set Orange\n  refit help                this text\n\nA line of the file is a reading: dose,grams,canister. The canister is a number or a name. A line that\nbegins with # is a comment; the first line may be a header. At most 512 readings and 32 canisters.\n\n",
+        b"refit: fits a dosing curve to weighed doses, with each canister's own curve\n\n  refit [FILE] [options]    fits the readings of FILE; without FILE, R's data set Orange\n  refit help                this text\n\nA line of the file is a reading: dose,grams,canister; a semicolon, a tab or spaces may stand for a comma. A number\nhas up to 15 digits. The canister is a number or a name of up to 32 letters, digits, '-', '.' and '_'. A line that\nbegins with # is a comment; the first line may be a header. At most 512 readings and 32 canisters.\n\n",
     );
     let p = put(
         out,

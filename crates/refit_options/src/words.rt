@@ -147,7 +147,7 @@ fn fault(out: &mut [u8], p: Place, number: u64) -> Place
     word(
         out,
         p,
-        b"\nnot three fields: dose, grams, canister\nthe dose is not a decimal number\nthe grams are not a decimal number\na number of more than 15 significant digits\na number whose exponent is out of range\nthe canister's name is empty, longer than 32 bytes, or has other signs than a name may have\nmore than 512 readings\nmore than 32 canisters\nthere are no readings\n",
+        b"\nnot three fields: dose, grams, canister\nthe dose is not a decimal number\nthe grams are not a decimal number\na number of more than 15 significant digits\na number whose exponent is out of range\nthe canister's name is empty, longer than 32 bytes, or has a sign that is no letter, digit, '-', '.' or '_'\nmore than 512 readings\nmore than 32 canisters\nthere are no readings\n",
         number,
     )
 }
