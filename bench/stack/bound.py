@@ -13,7 +13,7 @@ import re
 import subprocess
 import sys
 
-LEVELS = {"self_start::sorting::sort_within": 6}
+LEVELS = {"sorting::sort_within": 6}
 OUTSIDE = {"memcpy": 8, "memset": 8}
 RED_ZONE = 128
 

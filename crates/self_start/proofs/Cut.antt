@@ -6,13 +6,13 @@ use mathlib.Core.List.{List, [], _∷_, _++_}
 use lib.Ieee.{Float, lt, isNan}
 use Rattle.math.specs.Basic.{zero}
 use Rattle.math.specs.Order.{clash, lt-le, lt-trans}
-use Rattle.self_start.specs.Pairs.{Pair}
-use Rattle.self_start.specs.Sort.{insert, insertAll, sortOf, NoneBelow, Sorted}
-use Rattle.self_start.specs.SortLaws.{Keyed, insert-past, insert-here, insert-none, none-insert, sorted-insert}
+use Rattle.sorting.specs.Pairs.{Pair}
+use Rattle.sorting.specs.Sort.{insert, insertAll, sortOf, NoneBelow, Sorted}
+use Rattle.sorting.specs.SortLaws.{Keyed, insert-past, insert-here, insert-none, none-insert, sorted-insert}
 use Rattle.self_start.specs.Sides.{withLow, withHigh, putLow, putHigh, putOf, sidesOf}
 use Rattle.self_start.specs.declared.points.Sides.{Sides}
 use Rattle.self_start.proofs.Ends.{lastOf, firstOf, some, some-insert, last-past, last-stays}
-use Rattle.self_start.proofs.MergeLaws.{First, insert-first}
+use Rattle.sorting.specs.SortLaws.{First, insert-first}
 
 abbrev pub none : Pair
 none = (zero, zero)

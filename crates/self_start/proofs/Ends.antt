@@ -7,9 +7,9 @@ use native.Mathlib.Omega.{arith}
 use lib.ListN.{length, getD}
 use lib.Ieee.{Float, lt}
 use Rattle.math.specs.Order.{clash, lt-le, lt-self}
-use Rattle.self_start.specs.Pairs.{Pair}
-use Rattle.self_start.specs.Sort.{insert, NoneBelow, Sorted}
-use Rattle.self_start.specs.SortLaws.{insert-past, insert-here, insert-none}
+use Rattle.sorting.specs.Pairs.{Pair}
+use Rattle.sorting.specs.Sort.{insert, NoneBelow, Sorted}
+use Rattle.sorting.specs.SortLaws.{insert-past, insert-here, insert-none}
 
 unfoldable pub lastOf : Pair → List Pair → Pair
 lastOf d [] = d

@@ -9,9 +9,9 @@ use lib.ListN.{length, drop, getD, drop-of-length-le}
 use lib.Seq.{drop-cons}
 use lib.Ieee.{Float, nan}
 use Rattle.math.specs.Basic.{isFinite, maxOf, minOf, add}
-use Rattle.self_start.specs.Pairs.{Pair, zip}
+use Rattle.sorting.specs.Pairs.{Pair, zip}
 use Rattle.self_start.specs.Points.{finitePairs, nearOf, meanOf, runOf, averagedOf, largestOf, smallestOf}
-use Rattle.self_start.proofs.Zips.{pair-at, pairs-end}
+use Rattle.sorting.specs.Zips.{pair-at, pairs-end}
 
 module _ (xs ys : List Float) (e : length ys ≡ length xs) (i : ℕ) where
   abbrev from : List Pair

@@ -8,10 +8,10 @@ use lib.Ieee.{Float, nan, le}
 use borrow.Author.Tests.{lt-ltb, le-ltb, eq-eqb, ne-eqb}
 use Rattle.math.specs.Basic.{add, sub, mul, div, bits, zero, half, one, two, maxOf, isFinite}
 use Rattle.math.specs.Ln.{lnOf}
-use Rattle.self_start.specs.Pairs.{Pair, zip, pairAt}
+use Rattle.sorting.specs.Pairs.{Pair, zip, pairAt}
 use Rattle.self_start.specs.Points.{approxXFromY, mostOf, leastOf}
 use Rattle.self_start.specs.Start.{middleDose, sslogisElse, sslogisFrom, sslogisStart, scalOf, lrcOf, ssasympStart, ssmicmenStart, widthOf, apartOf, ssfplElse, ssfplFrom, ssfplStart}
-use Rattle.self_start.proofs.Zips.{zip-length, zip-at, zip-seconds}
+use Rattle.sorting.specs.Zips.{zip-length, zip-at, zip-seconds}
 
 module _ (xs ys : List Float) (e : length ys ≡ length xs) where
   abbrev points : List Pair

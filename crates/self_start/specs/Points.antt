@@ -7,8 +7,8 @@ use lib.IntN.{pos}
 use lib.ListN.{length, drop}
 use lib.Ieee.{Float, inf, binary64, lt, le, ofInt}
 use Rattle.math.specs.Basic.{add, sub, mul, div, bits, one, absOf, maxOf, minOf, isFinite}
-use Rattle.self_start.specs.Pairs.{Pair, pairAt, swapped}
-use Rattle.self_start.specs.Sort.{sortOf}
+use Rattle.sorting.specs.Pairs.{Pair, pairAt, swapped}
+use Rattle.sorting.specs.Sort.{sortOf}
 
 -- ---- `sorted_xy_data`
 

@@ -5,7 +5,7 @@ use mathlib.Core.List.{List, [], _∷_}
 use lib.Dec.{eqb}
 use lib.Ieee.{Float, lt, le}
 use Rattle.math.specs.Basic.{zero}
-use Rattle.self_start.specs.Pairs.{Pair}
+use Rattle.sorting.specs.Pairs.{Pair}
 use Rattle.self_start.specs.Points.{betweenOf}
 use Rattle.self_start.specs.declared.points.Sides.{Sides}
 

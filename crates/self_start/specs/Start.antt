@@ -8,8 +8,8 @@ use lib.Ieee.{Float, lt, le}
 use lib.Ieee as Ieee
 use Rattle.math.specs.Basic.{add, sub, mul, div, bits, zero, half, one, two, absOf, maxOf, minOf, isFinite}
 use Rattle.math.specs.Ln.{lnOf, ln-computes}
-use Rattle.self_start.specs.Pairs.{Pair, pairAt, zip, swapped, seconds}
-use Rattle.self_start.specs.Sort.{insert, insertAll}
+use Rattle.sorting.specs.Pairs.{Pair, pairAt, zip, swapped, seconds}
+use Rattle.sorting.specs.Sort.{insert, insertAll}
 use Rattle.self_start.specs.Points.{finitePairs, nearOf, meanOf, runOf, averagedOf, sortedXyData, betweenOf, windowOf, approxOf, approxXFromY, largestOf, smallestOf, mostOf, leastOf}
 use Rattle.self_start.specs.declared.Answer.{Answer}
 use Rattle.self_start.specs.declared.Answer.the-variants.{Refused, Done}
