@@ -11,7 +11,7 @@ use Rattle.math.specs.Loops.{pick-true, pick-false}
 use Rattle.problem.specs.Problem.{Problem, p, k}
 use Rattle.problem.specs.Faults.{refusalOf}
 use Rattle.problem.specs.Valid.{ValidFit, fit-valid}
-use Rattle.fit.specs.declared.rounds.Ended.{Ended}
+use Rattle.rounds.specs.declared.Ended.{Ended}
 use Rattle.fit.specs.declared.Answer.the-variants.{Refused, Done}
 use Rattle.fit.specs.Fit as Fit
 use Rattle.fit.specs.Steps.{runOf, answered, answer-is}

@@ -16,7 +16,8 @@ use Rattle.problem.specs.Valid.{Valid, fit-valid}
 use Rattle.state.specs.declared.State.{State}
 use Rattle.state.specs.Penalized.{sumOf}
 use Rattle.state.specs.Trial.{startOf, firstLambda}
-use Rattle.fit.specs.Fit.{Trial, Trace, lastOf, rounds, traceOf, wholeOf, fitOf}
+use Rattle.rounds.specs.Round.{Trial, Trace, lastOf}
+use Rattle.fit.specs.Fit.{rounds, traceOf, wholeOf, fitOf}
 use Rattle.fit.specs.Demand3 as Claim
 use Rattle.fit.specs.Demand3.{InBounds, noState, noTrial, winnersOf}
 use Rattle.fit.proofs.Lists.{All, all-at}

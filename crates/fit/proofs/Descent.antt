@@ -22,7 +22,8 @@ use Rattle.state.specs.declared.State.{State}
 use Rattle.state.specs.Penalized.{sumOf}
 use Rattle.state.specs.Normal.{normalOf}
 use Rattle.state.specs.Trial.{triedOf, largestOf, stepOf, lowered, raised}
-use Rattle.fit.specs.Fit.{1e-10, Trial, Trace, ended, tried, won, begun, direction, lengths, along, attempts, rounds}
+use Rattle.rounds.specs.Round.{1e-10, Trial, Trace, ended, tried, direction, lengths, along, attempts}
+use Rattle.fit.specs.Fit.{won, begun, rounds}
 use Rattle.fit.specs.Demand3.{InBounds, winnersOf}
 use Rattle.fit.proofs.Floats.{short}
 use Rattle.fit.proofs.Lists.{pick-keeps, All}

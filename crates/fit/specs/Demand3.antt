@@ -10,7 +10,8 @@ use Rattle.problem.specs.Problem.{Problem, p, k}
 use Rattle.state.specs.declared.State.{State}
 use Rattle.state.specs.Penalized.{sumOf}
 use Rattle.state.specs.Trial.{startOf}
-use Rattle.fit.specs.Fit.{Trial, Fit, answerOf}
+use Rattle.rounds.specs.Round.{Trial}
+use Rattle.fit.specs.Fit.{Fit, answerOf}
 
 -- A curve value lies in its bounds when it is neither NaN, nor below the lower, nor above the upper. It may be infinite where the bounds are:
 -- a finite value plus a finite step can overflow.

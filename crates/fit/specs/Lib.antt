@@ -1,5 +1,4 @@
 pub mod Fit
 pub mod Demand3
 pub mod Steps
-pub mod Rounds
 pub mod Answer

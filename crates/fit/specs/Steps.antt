@@ -1,49 +1,33 @@
--- The fit's loops, a step at a time, for the loops of the code to go by: what a run ends in, from the state s with the rounds r begun and the trials t made so far.
--- An invariant of the code: `resultOf s r t (rounds q (n - r) s lambda)` is what the whole run ends in, and so with `attempts` and `lengths`. Assumes nothing.
-use mathlib.Core.Path.{_≡_, refl, _∙_}
+-- The fit's rounds, a step at a time, for the loop of the code to go by: what a run ends in, from the state s with the rounds r begun and the trials t made so far.
+-- The invariant of the code: `resultOf s r t (rounds q (n - r) s lambda)` is what the whole run ends in. The steps of one round stand in specs/Steps.antt of crate rounds.
+-- Assumes nothing.
+use mathlib.Core.Path.{_≡_, refl}
 use mathlib.Core.Bool.{Bool, true, false, cond}
-use mathlib.Core.List.{List}
-use mathlib.Core.Option.{Option, none, some}
 use Prim.Native.Nat.{ℕ, suc, _+_, _-_, _*_, _≤_, _<_}
 use native.Mathlib.Omega.{arith}
 use lib.Ieee.{Float, lt}
 use lib.ListN.{length, take}
-use Rattle.math.specs.Basic.{mul, one, half}
-use Rattle.block_solve.specs.declared.normal.BlockNormal.{BlockNormal}
 use Rattle.problem.specs.Problem.{Problem, p, k}
 use Rattle.state.specs.declared.State.{State}
 use Rattle.state.specs.Penalized.{rssOf, sumOf}
 use Rattle.state.specs.Normal.{normalOf}
-use Rattle.state.specs.Trial.{startOf, triedOf, largestOf, stepOf, firstLambda, lowered, raised}
-use Rattle.fit.specs.declared.rounds.Ended.{Ended}
-use Rattle.fit.specs.Fit.{1e-10, Trace, ended, tried, won, begun, lastOf, direction, lengths, along, attempts, rounds, traceOf, fitOf, Answer, answerOf}
+use Rattle.state.specs.Trial.{startOf, firstLambda}
+use Rattle.rounds.specs.declared.Evaluated.{Evaluated}
+use Rattle.rounds.specs.declared.Ended.{Ended}
+use Rattle.rounds.specs.Round.{1e-10, Trace, ended, lastOf, attempts}
+use Rattle.rounds.specs.Steps.{stopped, resultOf, at-end}
+use Rattle.fit.specs.Fit.{won, begun, rounds, traceOf, fitOf, Answer, answerOf}
+
+-- the rss that is answered was worked out with the state
+abbrev pub endedWith : Evaluated → Bool → ℕ → ℕ → Ended
+endedWith x converged rounds trials = record { state = x .state; rss = x .rss; converged = converged; rounds = rounds; trials = trials }
 
 module _ (q : Problem) where
-  abbrev pub stopped : State → Bool → ℕ → ℕ → Ended
-  stopped s c r t = record { state = s; rss = rssOf q s; converged = c; rounds = r; trials = t }
-
-  abbrev pub resultOf : State → ℕ → ℕ → Trace → Ended
-  resultOf s r t x = stopped (lastOf s (x .accepted)) (x .converged) (r + x .rounds) (t + length (x .trials))
-
-  -- ---- nothing follows, a trial, a round
-
-  pub at-end : (s : State) (r t : ℕ) (c : Bool) → resultOf s r t (ended c) ≡ stopped s c r t
-  at-end s r t c =
-      let a : r + 0 ≡ r = omega arith in
-      let b : t + 0 ≡ t = omega arith in
-      λ i. stopped s c (a i) (b i)
-
-  pub after-trial : (s : State) (r t : ℕ) (z : State) (v : Float) (x : Trace) → resultOf s r t (tried z v x) ≡ resultOf s r (t + 1) x
-  after-trial s r t z v x =
-      let n = length (x .trials) in
-      let e : t + suc n ≡ t + 1 + n = omega arith in
-      λ i. stopped (lastOf s (x .accepted)) (x .converged) (r + x .rounds) (e i)
-
-  pub after-begun : (s : State) (r t : ℕ) (x : Trace) → resultOf s r t (begun x) ≡ resultOf s (r + 1) t x
+  pub after-begun : (s : State) (r t : ℕ) (x : Trace) → resultOf q s r t (begun x) ≡ resultOf q s (r + 1) t x
   after-begun s r t x =
       let n = x .rounds in
       let e : r + (n + 1) ≡ r + 1 + n = omega arith in
-      λ i. stopped (lastOf s (x .accepted)) (x .converged) (e i) (t + length (x .trials))
+      λ i. stopped q (lastOf s (x .accepted)) (x .converged) (e i) (t + length (x .trials))
 
   -- what follows on a winner z, with m rounds left: the end, or the next round
   abbrev pub winner : ℕ → State → Float → Float → Trace
@@ -51,80 +35,29 @@ module _ (q : Problem) where
 
   -- ---- rounds: i of n have begun
 
-  pub rounds-done : (n i : ℕ) (s : State) (l : Float) (r t : ℕ) → n ≤ i → resultOf s r t (rounds q (n - i) s l) ≡ stopped s false r t
+  pub rounds-done : (n i : ℕ) (s : State) (l : Float) (r t : ℕ) → n ≤ i → resultOf q s r t (rounds q (n - i) s l) ≡ stopped q s false r t
   unfolding rounds
-  rounds-done n i s l r t h = let e : n - i ≡ 0 = omega arith in rw e (at-end s r t false)
+  rounds-done n i s l r t h = let e : n - i ≡ 0 = omega arith in rw e (at-end q s r t false)
 
   pub rounds-go : (n i : ℕ) (s : State) (l : Float) (r t : ℕ) → i < n
-      → resultOf s r t (rounds q (n - i) s l) ≡ resultOf s (r + 1) t (attempts q s (normalOf q s) (sumOf q s) (winner (n - (i + 1))) 12 l)
+      → resultOf q s r t (rounds q (n - i) s l) ≡ resultOf q s (r + 1) t (attempts q s (normalOf q s) (sumOf q s) (winner (n - (i + 1))) 12 l)
   unfolding rounds
   rounds-go n i s l r t h =
       let e : n - i ≡ suc (n - (i + 1)) = omega arith in
       rw e (after-begun s r t (attempts q s (normalOf q s) (sumOf q s) (winner (n - (i + 1))) 12 l))
 
-  -- what follows on attempt a of n, if it fails
-  abbrev pub following : State → BlockNormal → Float → (State → Float → Float → Trace) → ℕ → ℕ → Float → Trace
-  following s b old win n a l = attempts q s b old win (n - (a + 1)) l
-
-  module _ (s : State) (b : BlockNormal) (old : Float) (win : State → Float → Float → Trace) (r t : ℕ) where
-    -- ---- attempts: a of n are over
-
-    pub attempts-done : (n a : ℕ) (l : Float) → n ≤ a → resultOf s r t (attempts q s b old win (n - a) l) ≡ stopped s false r t
-    unfolding attempts
-    attempts-done n a l h = let e : n - a ≡ 0 = omega arith in rw e (at-end s r t false)
-
-    attempts-go : (n a : ℕ) (l : Float) (o : Option (List Float)) → a < n → direction q b l ≡ o
-        → resultOf s r t (attempts q s b old win (n - a) l) ≡ resultOf s r t (along q s b old win (following s b old win n a) l o)
-    unfolding attempts
-    attempts-go n a l o h d = let e : n - a ≡ suc (n - (a + 1)) = omega arith in rw (e, ← d)
-
-    -- no direction
-    pub attempts-none : (n a : ℕ) (l : Float) → a < n → direction q b l ≡ none → resultOf s r t (attempts q s b old win (n - a) l) ≡ stopped s false r t
-    attempts-none n a l h d = attempts-go n a l none h d ∙ at-end s r t false
-
-    -- a proposal below 1e-10
-    pub attempts-near : (n a : ℕ) (l : Float) (d : List Float) → a < n → direction q b l ≡ some d → lt (largestOf d) 1e-10 ≡ true
-        → resultOf s r t (attempts q s b old win (n - a) l) ≡ stopped s true r t
-    attempts-near n a l d h e c = attempts-go n a l (some d) h e ∙ rw c (at-end s r t true)
-
-    -- 20 lengths
-    pub attempts-try : (n a : ℕ) (l : Float) (d : List Float) → a < n → direction q b l ≡ some d → lt (largestOf d) 1e-10 ≡ false
-        → resultOf s r t (attempts q s b old win (n - a) l) ≡ resultOf s r t (lengths q s b old win (20 - 0) (following s b old win n a) d l one)
-    attempts-try n a l d h e c = attempts-go n a l (some d) h e ∙ rw c refl
-
-    -- ---- lengths: j of n are tried
-
-    module _ (next : Float → Trace) (d : List Float) (l : Float) where
-      pub lengths-done : (n j : ℕ) (alpha : Float) → n ≤ j → resultOf s r t (lengths q s b old win (n - j) next d l alpha) ≡ resultOf s r t (next (raised l))
-      unfolding lengths
-      lengths-done n j alpha h = let e : n - j ≡ 0 = omega arith in rw e
-
-      pub lengths-win : (n j : ℕ) (alpha : Float) (z : State) → j < n → z ≡ triedOf q s d alpha → lt (sumOf q z) old ≡ true
-          → resultOf s r t (lengths q s b old win (n - j) next d l alpha) ≡ resultOf s r (t + 1) (win z (lowered l) (stepOf alpha d))
-      unfolding lengths
-      lengths-win n j alpha z h e c =
-          let m : n - j ≡ suc (n - (j + 1)) = omega arith in
-          rw (m, ← e, c) (after-trial s r t z (sumOf q z) (win z (lowered l) (stepOf alpha d)))
-
-      pub lengths-lose : (n j : ℕ) (alpha : Float) (z : State) → j < n → z ≡ triedOf q s d alpha → lt (sumOf q z) old ≡ false
-          → resultOf s r t (lengths q s b old win (n - j) next d l alpha) ≡ resultOf s r (t + 1) (lengths q s b old win (n - (j + 1)) next d l (mul alpha half))
-      unfolding lengths
-      lengths-lose n j alpha z h e c =
-          let m : n - j ≡ suc (n - (j + 1)) = omega arith in
-          rw (m, ← e, c) (after-trial s r t z (sumOf q z) (lengths q s b old win (n - (j + 1)) next d l (mul alpha half)))
-
   -- ---- after a win: the fit goes on from z
 
-  pub won-near : (m : ℕ) (s z : State) (l step : Float) (r t : ℕ) → lt step 1e-10 ≡ true → resultOf s r t (winner m z l step) ≡ stopped z true r t
-  won-near m s z l step r t c = rw c (at-end z r t true)
+  pub won-near : (m : ℕ) (s z : State) (l step : Float) (r t : ℕ) → lt step 1e-10 ≡ true → resultOf q s r t (winner m z l step) ≡ stopped q z true r t
+  won-near m s z l step r t c = rw c (at-end q z r t true)
 
-  pub won-on : (m : ℕ) (s z : State) (l step : Float) (r t : ℕ) → lt step 1e-10 ≡ false → resultOf s r t (winner m z l step) ≡ resultOf z r t (rounds q m z l)
+  pub won-on : (m : ℕ) (s z : State) (l step : Float) (r t : ℕ) → lt step 1e-10 ≡ false → resultOf q s r t (winner m z l step) ≡ resultOf q z r t (rounds q m z l)
   won-on m s z l step r t c = rw c refl
 
   -- ---- the whole: what the run ends in is the answer
 
   unfoldable pub runOf : ℕ → Ended
-  runOf n = resultOf (startOf q) 0 0 (rounds q n (startOf q) (firstLambda q))
+  runOf n = resultOf q (startOf q) 0 0 (rounds q n (startOf q) (firstLambda q))
 
   abbrev pub answered : Ended → Answer
   answered x =

@@ -1,7 +1,7 @@
 // The fit at one theta: the public operation.
-pub mod rounds;
+pub mod run;
 
-use crate::rounds::inner_gauss_newton;
+use crate::run::inner_gauss_newton;
 use problem::fit_fault;
 use state::State;
 ghost use mathlib.Core.Path.{_≡_};

@@ -7,8 +7,8 @@ use lib.ListN.{length}
 use Rattle.state.specs.Sized.{params-most}
 use Rattle.fit.proofs.Turns.{take-long}
 use borrow.Author.Needs.{needs}
-use Rattle.fit.proofs.rounds.inner_gauss_newton.Statement.{statement}
-use Rattle.fit.proofs.rounds.inner_gauss_newton.Tie as tie
+use Rattle.fit.proofs.run.inner_gauss_newton.Statement.{statement}
+use Rattle.fit.proofs.run.inner_gauss_newton.Tie as tie
 
 room-for-direction-requires : tie.Need-room-for-direction-requires
 room-for-direction-requires c κs = search needs

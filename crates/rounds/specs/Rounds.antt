@@ -1,6 +1,6 @@
--- What the functions of rounds.rt ask for and promise.
+-- What the functions of the code ask for and promise.
 use Prim.Native.Nat.{ℕ, _+_, _*_, _≤_}
-use mathlib.Core.Path.{_≡_, refl}
+use mathlib.Core.Path.{_≡_, refl, sym, ap, _∙_}
 use mathlib.Core.Bool.{Bool, true, false}
 use mathlib.Core.List.{List}
 use lib.Ieee.{Float}
@@ -12,11 +12,10 @@ use Rattle.problem.specs.Problem.{Problem, problemOf}
 use Rattle.state.specs.declared.State.{State}
 use Rattle.state.specs.Sized.{Effects, Readings}
 use Rattle.state.specs.Penalized.{squaresOf, penaltySum, rssOf, sumOf, Means}
-use Rattle.fit.specs.declared.rounds.Evaluated.{Evaluated}
-use Rattle.fit.specs.declared.rounds.Outcome.{Outcome}
-use Rattle.fit.specs.declared.rounds.Ended.{Ended}
-use Rattle.fit.specs.Fit.{Trace, attempts}
-use Rattle.fit.specs.Steps.{resultOf, stopped}
+use Rattle.rounds.specs.declared.Evaluated.{Evaluated}
+use Rattle.rounds.specs.declared.Outcome.{Outcome}
+use Rattle.rounds.specs.Round.{Trace, attempts}
+use Rattle.rounds.specs.Steps.{resultOf, stopped}
 
 -- a state with its rss and its penalised sum
 unfoldable pub evaluatedFrom : ℕ → List ℕ → ℕ → List Float → List Float → List ℕ → List Float → State → Evaluated
@@ -40,12 +39,21 @@ module _ (q : Problem) (s : State) where
   unfolding evaluatedFrom sumOf
   evaluated-sum = refl
 
+-- what is made of a state is made of its own
+module _ (code : ℕ) (effects : List ℕ) (groups : ℕ) (doses grams : List Float) (group : List ℕ) (theta : List Float) where
+  pub from-state : (z : State) → evaluatedFrom code effects groups doses grams group theta z .state ≡ z
+  unfolding evaluatedFrom
+  from-state z = refl
+
+  pub state-of : (y : Evaluated) (z : State) → y ≡ evaluatedFrom code effects groups doses grams group theta z → y .state ≡ z
+  state-of y z e = ap (λ (x : Evaluated). x .state) e ∙ from-state z
+
+  pub from-self : (y : Evaluated) (z : State) → y ≡ evaluatedFrom code effects groups doses grams group theta z → y ≡ evaluatedFrom code effects groups doses grams group theta (y .state)
+  from-self y z e = e ∙ ap (λ (x : State). evaluatedFrom code effects groups doses grams group theta x) (sym (state-of y z e))
+
 -- a round without a winner
 abbrev pub lostWith : Evaluated → Float → Bool → ℕ → Outcome
 lostWith x lambda converged trials = record { at = x; lambda = lambda; step = zero; won = false; converged = converged; trials = trials }
-
-abbrev pub endedWith : Evaluated → Bool → ℕ → ℕ → Ended
-endedWith x converged rounds trials = record { state = x .state; rss = x .rss; converged = converged; rounds = rounds; trials = trials }
 
 -- the sizes of a problem without fault, and of the two lists that its rounds work in: a direction, and the curves of all readings
 pub record Sizes (code : ℕ) (effects : List ℕ) (groups : ℕ) (doses grams : List Float) (group : List ℕ) (d means : List Float) : Type 0 where

@@ -3,11 +3,11 @@ use mathlib.Core.Path.{_≡_}
 use lib.Ieee.{Float}
 use Rattle.math.specs.Basic.{add}
 use Rattle.state.specs.declared.State.{State}
-use Rattle.fit.specs.declared.rounds.Evaluated.{Evaluated}
-use Rattle.fit.specs.Rounds.{evaluatedFrom}
+use Rattle.rounds.specs.declared.Evaluated.{Evaluated}
+use Rattle.rounds.specs.Rounds.{evaluatedFrom}
 use borrow.Author.Needs.{needs}
-use Rattle.fit.proofs.rounds.evaluate_state.Statement.{statement}
-use Rattle.fit.proofs.rounds.evaluate_state.Tie as tie
+use Rattle.rounds.proofs.evaluate_state.Statement.{statement}
+use Rattle.rounds.proofs.evaluate_state.Tie as tie
 
 record-of : (a a' b b' : Float) (s : State) → a ≡ a' → b ≡ b' → _≡_ {A = Evaluated} (record { state = s; rss = a; sum = add a b }) (record { state = s; rss = a'; sum = add a' b' })
 record-of a a' b b' s e f = λ i. record { state = s; rss = e i; sum = add (e i) (f i) }

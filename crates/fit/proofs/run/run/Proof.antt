@@ -8,10 +8,11 @@ use borrow.Author.Needs.{needs}
 use borrow.Author.Tests.{not-true, not-false}
 use lib.Ieee.{Float}
 use Rattle.state.specs.Normal.{blocksOf}
+use Rattle.rounds.specs.Rounds.{state-of, from-self}
 use Rattle.fit.specs.Steps.{rounds-done}
-use Rattle.fit.proofs.Turns.{given, Rounds, from-self, state-of, run-begins, ends-as, round-lost, round-near, round-on}
-use Rattle.fit.proofs.rounds.run.Statement.{statement}
-use Rattle.fit.proofs.rounds.run.Tie as tie
+use Rattle.fit.proofs.Turns.{given, Rounds, run-begins, ends-as, round-lost, round-near, round-on}
+use Rattle.fit.proofs.run.run.Statement.{statement}
+use Rattle.fit.proofs.run.run.Tie as tie
 
 abbrev Inv-loop : tie.InvT-loop
 Inv-loop code effects groups doses grams group starts lower upper group-lower group-upper theta allowed d₀ means₀ k inverse x₀ lambda₀ rounds₀ trials₀ d means x lambda rounds trials =

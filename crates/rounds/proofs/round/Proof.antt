@@ -7,13 +7,13 @@ use native.Mathlib.Omega.{arith}
 use borrow.Author.Needs.{needs}
 use lib.Ieee.{Float, lt}
 use lib.ListN.{length}
-use Rattle.fit.specs.declared.rounds.Outcome.{Outcome}
-use Rattle.fit.specs.Fit.{1e-10}
-use Rattle.fit.specs.Steps.{attempts-done, attempts-none, attempts-near}
-use Rattle.fit.specs.Rounds.{lostWith}
-use Rattle.fit.proofs.Turns.{never, given, Attempts, Lengths, lost-came, won-came, from-self, no-direction, a-direction, trial-lost, attempt-over, trial-won}
-use Rattle.fit.proofs.rounds.round.Statement.{statement}
-use Rattle.fit.proofs.rounds.round.Tie as tie
+use Rattle.rounds.specs.declared.Outcome.{Outcome}
+use Rattle.rounds.specs.Round.{1e-10}
+use Rattle.rounds.specs.Steps.{attempts-done, attempts-none, attempts-near}
+use Rattle.rounds.specs.Rounds.{lostWith, from-self}
+use Rattle.rounds.proofs.Turns.{never, given, Attempts, Lengths, lost-came, won-came, no-direction, a-direction, trial-lost, attempt-over, trial-won}
+use Rattle.rounds.proofs.round.Statement.{statement}
+use Rattle.rounds.proofs.round.Tie as tie
 
 abbrev Inv-loop : tie.InvT-loop
 Inv-loop code effects groups doses grams group lower upper group-lower group-upper theta x n first d means₀ p k s old lambda trials₀ best₀ attempt alpha₀ t₀ means trials best alpha t =

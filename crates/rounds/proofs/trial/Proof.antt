@@ -1,8 +1,8 @@
 -- The state tried, and then its sums. Assumes nothing.
-use Rattle.fit.proofs.Turns.{state-of}
+use Rattle.rounds.specs.Rounds.{state-of}
 use borrow.Author.Needs.{needs}
-use Rattle.fit.proofs.rounds.trial.Statement.{statement}
-use Rattle.fit.proofs.rounds.trial.Tie as tie
+use Rattle.rounds.proofs.trial.Statement.{statement}
+use Rattle.rounds.proofs.trial.Tie as tie
 
 try-step-requires : tie.Need-try-step-requires
 try-step-requires c κs = search needs
