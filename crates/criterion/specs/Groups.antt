@@ -10,7 +10,7 @@ use Rattle.math.specs.Basic.{add, sub, mul, zero}
 use Rattle.math.specs.Loops.{iter}
 use Rattle.curves.specs.declared.Mean.{Mean}
 use Rattle.curves.specs.MeanFn.{evalWithReOf}
-use Rattle.state.specs.Normal.{randomGradients}
+use Rattle.penalized.specs.Normal.{randomGradients}
 use Rattle.state.specs.Sized.{Effects}
 
 -- the sizes that the functions of this crate ask for: a problem without fault has them, with b of groups times k places

@@ -12,7 +12,7 @@ use Rattle.math.specs.Ln.{lnOf}
 use Rattle.math.specs.Rationals.{over}
 use Rattle.curves.specs.MeanFn.{nParamsOf}
 use Rattle.re_cov.specs.ReCov.{1e-12, logDetOf}
-use Rattle.state.specs.Penalized.{penaltySum}
+use Rattle.penalized.specs.Penalized.{penaltySum}
 use Rattle.criterion.specs.declared.agq.Correction.{Correction}
 use Rattle.criterion.specs.declared.agq.Correction.the-variants.{Added, None}
 use Rattle.criterion.specs.declared.profile.Profile.{Profile}

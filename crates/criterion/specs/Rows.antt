@@ -19,8 +19,8 @@ use Rattle.quadrature.specs.Rules as Rules
 use Rattle.quadrature.specs.Sums.{logSumExp}
 use Rattle.problem.specs.Problem.{Problem, problemOf}
 use Rattle.state.specs.Lists.{each}
-use Rattle.state.specs.Normal.{randomGradients}
-use Rattle.state.specs.Penalized.{squaresOf, penaltySum}
+use Rattle.penalized.specs.Normal.{randomGradients}
+use Rattle.penalized.specs.Penalized.{squaresOf, penaltySum}
 use Rattle.state.specs.Project.{projectOf}
 use Rattle.state.specs.Trial.{onScal, started, startFrom}
 use Rattle.fit.specs.Fit.{rounds, traceOf, fitOf}

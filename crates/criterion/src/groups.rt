@@ -4,7 +4,7 @@ use curves::mean_fn::eval_mean_with_re;
 ghost use mathlib.Core.Path.{_≡_};
 ghost use Prim.Native.Nat.{_≤_};
 ghost use lib.ListN.{length, take};
-ghost use Rattle.state.specs.Normal.{randomGradients};
+ghost use Rattle.penalized.specs.Normal.{randomGradients};
 ghost use Rattle.state.specs.Sized.{Effects};
 ghost use Rattle.criterion.specs.Groups.{countOf, ownOf, nextPlace, sizeOf, gradientsAt, groupSquares};
 

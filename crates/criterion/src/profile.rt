@@ -9,7 +9,7 @@ use re_cov::re_penalty;
 ghost use mathlib.Core.Path.{_≡_};
 ghost use Prim.Native.Nat.{_≤_, _*_};
 ghost use lib.ListN.{length};
-ghost use Rattle.state.specs.Penalized.{penaltySum};
+ghost use Rattle.penalized.specs.Penalized.{penaltySum};
 ghost use Rattle.criterion.specs.Groups.{Lists};
 ghost use Rattle.criterion.specs.Profile.{isScalar, dfOf, sigma2Of, scalarOf, remlOf, laplaceOf, corrected, detOf, profileFrom};
 

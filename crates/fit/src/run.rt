@@ -1,11 +1,11 @@
 // All rounds of a fit (`inner_gauss_newton_status`), from the start on.
 use curves::mean_fn::n_params;
+use penalized::normal::normal;
 use re_cov::sigma_inv_from_theta;
 use rounds::Ended;
 use rounds::Evaluated;
 use rounds::evaluate_state;
 use rounds::round;
-use state::normal::normal;
 use state::trial::first_lambda;
 use state::trial::start_state;
 ghost use mathlib.Core.Path.{_≡_};

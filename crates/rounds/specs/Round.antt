@@ -10,7 +10,7 @@ use Rattle.block_solve.specs.declared.normal.BlockNormal.{BlockNormal}
 use Rattle.block_solve.specs.Direction.{directionOf}
 use Rattle.problem.specs.Problem.{Problem, p, k}
 use Rattle.state.specs.declared.State.{State}
-use Rattle.state.specs.Penalized.{sumOf}
+use Rattle.penalized.specs.Penalized.{sumOf}
 use Rattle.state.specs.Trial.{triedOf, largestOf, stepOf, lowered, raised}
 
 -- a proposal or a step below it ends the fit as converged

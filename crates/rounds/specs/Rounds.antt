@@ -11,7 +11,7 @@ use Rattle.block_solve.specs.declared.normal.BlockNormal.{BlockNormal}
 use Rattle.problem.specs.Problem.{Problem, problemOf}
 use Rattle.state.specs.declared.State.{State}
 use Rattle.state.specs.Sized.{Effects, Readings}
-use Rattle.state.specs.Penalized.{squaresOf, penaltySum, rssOf, sumOf, Means}
+use Rattle.penalized.specs.Penalized.{squaresOf, penaltySum, rssOf, sumOf, Means}
 use Rattle.rounds.specs.declared.Evaluated.{Evaluated}
 use Rattle.rounds.specs.declared.Outcome.{Outcome}
 use Rattle.rounds.specs.Round.{Trace, attempts}

@@ -3,9 +3,9 @@
 // the round that starts from it builds its normal blocks from there.
 use block_solve::normal::BlockNormal;
 use curves::mean_fn::n_params;
+use penalized::evaluate;
+use penalized::penalties;
 use state::State;
-use state::penalized::evaluate;
-use state::penalized::penalties;
 use state::trial::largest;
 use state::trial::lower_lambda;
 use state::trial::raise_lambda;
@@ -15,7 +15,7 @@ ghost use mathlib.Core.Path.{_≡_};
 ghost use Prim.Native.Nat.{_≤_};
 ghost use lib.ListN.{length};
 ghost use Rattle.state.specs.Sized.{Effects, Readings};
-ghost use Rattle.state.specs.Penalized.{Means};
+ghost use Rattle.penalized.specs.Penalized.{Means};
 ghost use Rattle.state.specs.Trial.{triedFrom};
 ghost use Rattle.rounds.specs.Rounds.{evaluatedFrom, lostWith, Sizes, RoundAnswer};
 

@@ -8,20 +8,15 @@ use lib.Ieee as Ieee
 use Rattle.math.specs.Basic.{absOf, maxOf, minOf, isFinite, one, half}
 use Rattle.math.specs.Loops.{iter}
 use Rattle.math.specs.Rationals.{over, minus, num}
-use Rattle.curves.specs.MeanFn.{evalWithReOf}
-use Rattle.curves.specs.Curve.{curve-computes}
-use Rattle.re_cov.specs.ReCov.{re-cov-computes}
-use Rattle.block_solve.specs.Normal.{addReading, accumulateOf, timesOf, addPriors, priorOf}
+use Rattle.curves.specs.MeanFn.{nParamsOf}
 use Rattle.state.specs.Lists.{each}
 use Rattle.state.specs.Constants.{1e-2, 1e-4}
 use Rattle.state.specs.Project.{projectOf, slotOf, projectGroups}
-use Rattle.state.specs.Penalized.{squaresOf, penaltySum, sumOf}
-use Rattle.state.specs.Normal.{fixedGradients, randomGradients, readingsOf, blocksOf}
 use Rattle.state.specs.Trial.{onScal, started, startFrom, movedOf, valuesTried, effectsTried, triedFrom, largestOf, stepOf, lambdaOf, lowered, raised}
 
 -- `unfolding state-computes` opens all that the values of this crate are computed by
 unfoldable pub state-computes : Unit {0}
-unfolding curve-computes re-cov-computes iter absOf maxOf minOf isFinite Ieee.lt Ieee.eq Ieee.isNan evalWithReOf addReading accumulateOf timesOf addPriors priorOf each projectOf slotOf projectGroups squaresOf penaltySum sumOf fixedGradients randomGradients readingsOf blocksOf onScal started startFrom movedOf valuesTried effectsTried triedFrom largestOf stepOf lambdaOf lowered raised
+unfolding iter absOf maxOf minOf isFinite Ieee.add Ieee.sub Ieee.mul Ieee.lt Ieee.eq Ieee.isNan nParamsOf each projectOf slotOf projectGroups onScal started startFrom movedOf valuesTried effectsTried triedFrom largestOf stepOf lambdaOf lowered raised
 state-computes = tt
 
 -- 1 / 10 ^ n, and no bound
@@ -83,14 +78,13 @@ pub lambdas-are : lambdas ≡ 1e-2 ∷ 1e-4 ∷ 1e-4 ∷ []
 unfolding lambdas lambdaOf
 lambdas-are = refl
 
--- the penalties of three groups, the largest size of a direction, and that of half of it
+-- the largest size of a direction, and that of half of it
 unfoldable pub sizes : List Float
 sizes =
-    penaltySum 1 3 (num 1 ∷ []) (num 2 ∷ num 3 ∷ num 4 ∷ [])
-    ∷ largestOf (num 1 ∷ minus 4 1 ∷ num 3 ∷ [])
+    largestOf (num 1 ∷ minus 4 1 ∷ num 3 ∷ [])
     ∷ stepOf half (num 1 ∷ minus 4 1 ∷ num 3 ∷ [])
     ∷ []
 
-pub sizes-are : sizes ≡ num 29 ∷ num 4 ∷ num 2 ∷ []
+pub sizes-are : sizes ≡ num 4 ∷ num 2 ∷ []
 unfolding state-computes sizes ofBits round
 sizes-are = refl

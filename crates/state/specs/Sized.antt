@@ -1,13 +1,14 @@
--- The sizes that the functions of this crate ask for: a problem without the faults 1 to 5 has them.
-use Prim.Native.Nat.{ℕ, _≤_, _<_}
+-- The sizes that the functions of this crate and of crate penalized ask for: a problem without the faults 1 to 5 has them.
+use Prim.Native.Nat.{ℕ, _+_, _*_, _≤_, _<_}
 use mathlib.Core.Path.{_≡_, sym, subst}
 use mathlib.Core.List.{List}
 use mathlib.Core.Bool.{Bool, true, false, cond}
-use native.Mathlib.Nat.{lt-of-lt-of-le}
+use native.Mathlib.Nat.{lt-of-lt-of-le, mul-le-mul-right}
 use native.Mathlib.Omega.{arith}
 use lib.Dec.{eqb}
 use lib.Ieee.{Float}
 use lib.ListN.{getD, length}
+use Rattle.math.specs.Parts.{group-fits}
 use Rattle.curves.specs.MeanFn.{nParamsOf}
 use Rattle.problem.specs.Problem.{Problem}
 use Rattle.problem.specs.Valid.{Sized}
@@ -37,6 +38,13 @@ params-most code = most (eqb code 3) (eqb code 4)
 
 pub few-params : (p code : ℕ) → p ≡ nParamsOf code → p ≤ 4
 few-params p code e = rw e (params-most code)
+
+-- the effects of at most 32 groups lie within the 64 places, and so do one group's
+pub all-fit : (groups k : ℕ) → groups ≤ 32 → k ≤ 2 → groups * k ≤ 64
+all-fit groups k p q = omega (arith, mul-le-mul-right k p)
+
+pub slot-fits : (g groups k : ℕ) → g < groups → groups ≤ 32 → k ≤ 2 → g * k + k ≤ 64
+slot-fits g groups k p q r = omega (arith, group-fits g groups k p, all-fit groups k q r)
 
 module _ (q : Problem) (h : Sized q) where
   pub effects-sized : Effects (q .effects)

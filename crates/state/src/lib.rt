@@ -1,7 +1,5 @@
-// A fit between its leaves and its rounds: a state, its projection, its penalised sum, its normal
-// blocks, and the state that a trial tries. The fit calls these after all refusals.
-pub mod normal;
-pub mod penalized;
+// A fit between its leaves and its rounds: a state, its projection, the start, and the state that a
+// trial tries. The fit calls these after all refusals.
 pub mod project;
 pub mod trial;
 

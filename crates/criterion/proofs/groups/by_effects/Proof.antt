@@ -2,7 +2,7 @@ use mathlib.Core.Path.{refl}
 use native.Mathlib.Omega.{arith}
 use borrow.Author.Needs.{needs}
 use borrow.Author.Tests.{eq-eqb, ne-eqb}
-use Rattle.state.specs.Normal.{randomGradients}
+use Rattle.penalized.specs.Normal.{randomGradients}
 use Rattle.criterion.proofs.groups.by_effects.Statement.{statement}
 use Rattle.criterion.proofs.groups.by_effects.Tie as tie
 

@@ -1,6 +1,6 @@
 use mathlib.Core.Path.{ap, _∙_}
 use borrow.Author.Needs.{needs}
-use Rattle.state.specs.Normal.{randomGradients}
+use Rattle.penalized.specs.Normal.{randomGradients}
 use Rattle.criterion.specs.Groups.{gradientsAt}
 use Rattle.criterion.proofs.groups.gradients.Statement.{statement}
 use Rattle.criterion.proofs.groups.gradients.Tie as tie

@@ -3,7 +3,7 @@ use Prim.Native.Nat.{_+_, _-_, _*_, _≤_}
 use Rattle.math.specs.Loops.{iter, iter-none, iter-more, iter-all}
 use Rattle.math.specs.Basic.{zero}
 use Rattle.math.specs.Parts.{group-fits}
-use Rattle.state.specs.Penalized.{penaltyAt, penaltySum}
+use Rattle.penalized.specs.Penalized.{penaltyAt, penaltySum}
 use Rattle.criterion.proofs.Laws.{all-fit}
 use borrow.Author.Needs.{needs}
 use native.Mathlib.Omega.{arith}

@@ -5,7 +5,7 @@ use native.Mathlib.Omega.{arith}
 use borrow.Author.Needs.{needs}
 use Rattle.math.specs.Loops.{iter, iter-all, iter-more, iter-none}
 use Rattle.state.specs.Project.{groupClamp, slotAt, slotOf}
-use Rattle.state.proofs.Laws.{slot-fits}
+use Rattle.state.specs.Sized.{slot-fits}
 use Rattle.state.proofs.project.clamp_slot.Statement.{statement}
 use Rattle.state.proofs.project.clamp_slot.Tie as tie
 

@@ -2,7 +2,7 @@ use mathlib.Core.Path.{refl}
 use native.Mathlib.Omega.{arith}
 use borrow.Author.Needs.{needs}
 use Rattle.state.specs.Trial.{effectsTried}
-use Rattle.state.proofs.Laws.{all-fit}
+use Rattle.state.specs.Sized.{all-fit}
 use Rattle.state.proofs.trial.try_effects.Statement.{statement}
 use Rattle.state.proofs.trial.try_effects.Tie as tie
 

@@ -1,8 +1,8 @@
 use mathlib.Core.Path.{refl}
 use borrow.Author.Needs.{needs}
-use Rattle.state.specs.Normal.{fixedGradients}
-use Rattle.state.proofs.normal.fixed_gradients.Statement.{statement}
-use Rattle.state.proofs.normal.fixed_gradients.Tie as tie
+use Rattle.penalized.specs.Normal.{fixedGradients}
+use Rattle.penalized.proofs.normal.fixed_gradients.Statement.{statement}
+use Rattle.penalized.proofs.normal.fixed_gradients.Tie as tie
 
 free-requires : tie.Need-free-requires
 free-requires c κs = search needs

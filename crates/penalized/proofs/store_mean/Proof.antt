@@ -2,9 +2,9 @@ use mathlib.Core.Path.{refl}
 use native.Mathlib.Omega.{arith}
 use borrow.Author.Needs.{needs}
 use lib.ListN.{length-set}
-use Rattle.state.specs.Penalized.{storedMean}
-use Rattle.state.proofs.penalized.store_mean.Statement.{statement}
-use Rattle.state.proofs.penalized.store_mean.Tie as tie
+use Rattle.penalized.specs.Penalized.{storedMean}
+use Rattle.penalized.proofs.store_mean.Statement.{statement}
+use Rattle.penalized.proofs.store_mean.Tie as tie
 
 mul-at : tie.Need-mul-at
 mul-at c = search needs

@@ -2,9 +2,9 @@ use mathlib.Core.Path.{refl}
 use native.Mathlib.Omega.{arith}
 use borrow.Author.Needs.{needs}
 use borrow.Author.Tests.{eq-eqb, ne-eqb}
-use Rattle.state.specs.Normal.{randomGradients}
-use Rattle.state.proofs.normal.random_gradients.Statement.{statement}
-use Rattle.state.proofs.normal.random_gradients.Tie as tie
+use Rattle.penalized.specs.Normal.{randomGradients}
+use Rattle.penalized.proofs.normal.random_gradients.Statement.{statement}
+use Rattle.penalized.proofs.normal.random_gradients.Tie as tie
 
 shared-slice-read-j : tie.Need-shared-slice-read-j
 shared-slice-read-j c = search needs

@@ -1,31 +1,20 @@
--- What the proofs of this crate share: sizes, loops that agree turn by turn, and the curves kept in a list. Assumes nothing.
+-- What the proofs of this crate share: loops that agree turn by turn, and the curves kept in a list. Assumes nothing.
 use Prim.Native.Nat.{ℕ, zero, suc, _+_, _*_, _≤_, _<_}
 use mathlib.Core.Path.{_≡_, refl, sym, ap, _∙_}
 use mathlib.Core.List.{List}
 use native.Mathlib.Omega.{arith}
-use native.Mathlib.Nat.{mul-le-mul-right}
 use borrow.Author.Count.{below-more}
 use lib.Ieee.{Float, nan}
 use lib.ListN.{length, getD, set, length-set}
 use lib.Seq.{getD-set-same, getD-set-other}
 use Rattle.math.specs.Loops.{iter}
-use Rattle.math.specs.Parts.{group-fits}
 use Rattle.curves.specs.declared.Mean.{Mean}
 use Rattle.block_solve.specs.declared.normal.BlockNormal.{BlockNormal}
 use Rattle.block_solve.specs.Normal.{emptyOf, accumulateOf, accumulate-fits}
 use Rattle.block_solve.specs.Blocks.{fixedOf, crossOf, randomOf, fixedRhsOf, randomRhsOf, adds-to-each}
 use Rattle.state.specs.declared.State.{State}
-use Rattle.state.specs.Penalized.{meanIn, storedMean, Means}
-use Rattle.state.specs.Normal.{readingOf, readingAt, readingIn, readingsOf, readingsIn}
-
--- ---- sizes
-
-pub all-fit : (groups k : ℕ) → groups ≤ 32 → k ≤ 2 → groups * k ≤ 64
-all-fit groups k p q = omega (arith, mul-le-mul-right k p)
-
--- a group's effects lie within the 64 places
-pub slot-fits : (g groups k : ℕ) → g < groups → groups ≤ 32 → k ≤ 2 → g * k + k ≤ 64
-slot-fits g groups k p q r = omega (arith, group-fits g groups k p, all-fit groups k q r)
+use Rattle.penalized.specs.Penalized.{meanIn, storedMean, Means}
+use Rattle.penalized.specs.Normal.{readingOf, readingAt, readingIn, readingsOf, readingsIn}
 
 -- ---- two loops whose turns agree
 

@@ -8,10 +8,11 @@ use borrow.Author.Needs.{needs}
 use lib.ListN.{getD, length}
 use Rattle.math.specs.Basic.{zero}
 use Rattle.math.specs.Loops.{iter, iter-all, iter-more, iter-none}
-use Rattle.state.specs.Penalized.{meanAt, meanIn, squareAt, squaresOf}
-use Rattle.state.proofs.Laws.{held-more, slot-fits, stored-length}
-use Rattle.state.proofs.penalized.evaluate.Statement.{statement}
-use Rattle.state.proofs.penalized.evaluate.Tie as tie
+use Rattle.penalized.specs.Penalized.{meanAt, meanIn, squareAt, squaresOf}
+use Rattle.state.specs.Sized.{slot-fits}
+use Rattle.penalized.proofs.Laws.{held-more, stored-length}
+use Rattle.penalized.proofs.evaluate.Statement.{statement}
+use Rattle.penalized.proofs.evaluate.Tie as tie
 
 abbrev Inv-loop : tie.InvT-loop
 Inv-loop code effects doses grams group means₀ v b k t₀ i₀ means t i =

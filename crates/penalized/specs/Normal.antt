@@ -13,8 +13,8 @@ use Rattle.re_cov.specs.ReCov.{inverseOf}
 use Rattle.block_solve.specs.declared.normal.BlockNormal.{BlockNormal}
 use Rattle.block_solve.specs.Normal.{emptyOf, accumulateOf, priorOf}
 use Rattle.problem.specs.Problem.{Problem, k}
 use Rattle.state.specs.declared.State.{State}
-use Rattle.state.specs.Penalized.{meanAt, meanIn}
+use Rattle.penalized.specs.Penalized.{meanAt, meanIn}
 
 -- the gradient by value j
 abbrev pub gradientAt : Mean → ℕ → Float

@@ -6,11 +6,11 @@ use borrow.Author.Needs.{needs}
 use lib.ListN.{length}
 use Rattle.math.specs.Loops.{iter, iter-all, iter-more, iter-none}
 use Rattle.block_solve.specs.Normal.{emptyOf}
-use Rattle.state.specs.Normal.{readingIn, readingsIn}
+use Rattle.penalized.specs.Normal.{readingIn, readingsIn}
 use Rattle.state.specs.Sized.{few-params}
-use Rattle.state.proofs.Laws.{by-blocks}
-use Rattle.state.proofs.normal.readings.Statement.{statement}
-use Rattle.state.proofs.normal.readings.Tie as tie
+use Rattle.penalized.proofs.Laws.{by-blocks}
+use Rattle.penalized.proofs.normal.readings.Statement.{statement}
+use Rattle.penalized.proofs.normal.readings.Tie as tie
 
 abbrev Inv-loop : tie.InvT-loop
 Inv-loop code effects doses grams group lower upper means p k n₀ i₀ n i = (i ≤ length doses) × (n ≡ iter (readingIn code effects doses grams group lower upper means) i emptyOf)

@@ -1,8 +1,8 @@
 use mathlib.Core.Path.{refl}
 use borrow.Author.Needs.{needs}
-use Rattle.state.specs.Penalized.{meanIn}
-use Rattle.state.proofs.penalized.load_mean.Statement.{statement}
-use Rattle.state.proofs.penalized.load_mean.Tie as tie
+use Rattle.penalized.specs.Penalized.{meanIn}
+use Rattle.penalized.proofs.load_mean.Statement.{statement}
+use Rattle.penalized.proofs.load_mean.Tie as tie
 
 mul-at : tie.Need-mul-at
 mul-at c = search needs

@@ -6,10 +6,10 @@ use borrow.Author.Needs.{needs}
 use lib.ListN.{length}
 use Rattle.math.specs.Basic.{zero}
 use Rattle.math.specs.Loops.{iter, iter-all, iter-more, iter-none}
-use Rattle.state.specs.Penalized.{penaltyAt, penaltySum}
-use Rattle.state.proofs.Laws.{slot-fits}
-use Rattle.state.proofs.penalized.penalties.Statement.{statement}
-use Rattle.state.proofs.penalized.penalties.Tie as tie
+use Rattle.penalized.specs.Penalized.{penaltyAt, penaltySum}
+use Rattle.state.specs.Sized.{slot-fits}
+use Rattle.penalized.proofs.penalties.Statement.{statement}
+use Rattle.penalized.proofs.penalties.Tie as tie
 
 abbrev Inv-loop : tie.InvT-loop
 Inv-loop k theta groups b t₀ g₀ t g = (g ≤ groups) × (t ≡ iter (penaltyAt k theta b) g zero)

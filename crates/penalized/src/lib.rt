@@ -1,13 +1,16 @@
-// The penalised sum of a state: the squares of the residuals, and each group's penalty.
-use crate::State;
+// The penalised sum of a state: the squares of the residuals, and each group's penalty. Its normal
+// blocks are built from the same curves. The fit calls these after all refusals.
+pub mod normal;
+
 use curves::Mean;
 use curves::mean_fn::eval_mean_with_re;
 use re_cov::re_penalty;
+use state::State;
 ghost use mathlib.Core.Path.{_≡_};
 ghost use Prim.Native.Nat.{_≤_, _<_, _+_, _*_};
 ghost use lib.ListN.{length};
 ghost use Rattle.state.specs.Sized.{Effects, Readings};
-ghost use Rattle.state.specs.Penalized.{squaresOf, penaltySum, meanIn, storedMean, Means};
+ghost use Rattle.penalized.specs.Penalized.{squaresOf, penaltySum, meanIn, storedMean, Means};
 
 // The curve of reading i, in its five places.
 fn store_mean(means: &mut [f64], i: usize, y: Mean)

@@ -3,10 +3,11 @@ use mathlib.Core.Path.{_∙_, _≡_, refl}
 use native.Mathlib.Omega.{arith}
 use borrow.Author.Needs.{needs}
 use lib.ListN.{length, length-take}
-use Rattle.state.specs.Normal.{blocksOf}
-use Rattle.state.proofs.Laws.{all-fit, readings-kept}
-use Rattle.state.proofs.normal.normal.Statement.{statement}
-use Rattle.state.proofs.normal.normal.Tie as tie
+use Rattle.penalized.specs.Normal.{blocksOf}
+use Rattle.state.specs.Sized.{all-fit}
+use Rattle.penalized.proofs.Laws.{readings-kept}
+use Rattle.penalized.proofs.normal.normal.Statement.{statement}
+use Rattle.penalized.proofs.normal.normal.Tie as tie
 
 readings-requires : tie.Need-readings-requires
 readings-requires c κs = search needs

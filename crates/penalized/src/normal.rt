@@ -1,6 +1,5 @@
 // The normal blocks of a state.
-use crate::State;
-use crate::penalized::load_mean;
+use crate::load_mean;
 use block_solve::normal::BlockNormal;
 use block_solve::normal::add_cross;
 use block_solve::normal::add_fixed;
@@ -9,15 +8,16 @@ use block_solve::normal::add_random;
 use block_solve::normal::add_random_rhs;
 use curves::Mean;
 use curves::mean_fn::n_params;
+use state::State;
 ghost use mathlib.Core.Path.{_≡_};
 ghost use mathlib.Core.Bool.{cond};
 ghost use Prim.Native.Nat.{_≤_, _<_, _*_};
 ghost use lib.Ieee.{eq, nan};
 ghost use lib.ListN.{length, getD};
 ghost use Rattle.math.specs.Basic.{zero};
 ghost use Rattle.state.specs.Sized.{Effects, Readings};
-ghost use Rattle.state.specs.Penalized.{Means};
-ghost use Rattle.state.specs.Normal.{fixedGradients, randomGradients, readingsIn, blocksOf};
+ghost use Rattle.penalized.specs.Penalized.{Means};
+ghost use Rattle.penalized.specs.Normal.{fixedGradients, randomGradients, readingsIn, blocksOf};
 
 // The gradient by value j, or zero where its bounds are equal.
 fn free(lower: &[f64], upper: &[f64], j: usize, gradient: f64) -> f64

@@ -1,8 +1,8 @@
 use mathlib.Core.Path.{sym}
 use borrow.Author.Needs.{needs}
 use Rattle.math.specs.Loops.{pick-false, pick-true}
-use Rattle.state.proofs.normal.free.Statement.{statement}
-use Rattle.state.proofs.normal.free.Tie as tie
+use Rattle.penalized.proofs.normal.free.Statement.{statement}
+use Rattle.penalized.proofs.normal.free.Tie as tie
 
 at-requires : tie.Need-at-requires
 at-requires c κs = search needs

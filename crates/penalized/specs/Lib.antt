@@ -1,0 +1,3 @@
+pub mod Penalized
+pub mod Normal
+pub mod Rows
