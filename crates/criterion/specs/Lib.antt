@@ -1,6 +1,3 @@
-pub mod Groups
-pub mod LogDet
-pub mod Agq
 pub mod Profile
 pub mod Answer
 pub mod Rows

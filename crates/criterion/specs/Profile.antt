@@ -13,12 +13,12 @@ use Rattle.math.specs.Rationals.{over}
 use Rattle.curves.specs.MeanFn.{nParamsOf}
 use Rattle.re_cov.specs.ReCov.{1e-12, logDetOf}
 use Rattle.penalized.specs.Penalized.{penaltySum}
-use Rattle.criterion.specs.declared.agq.Correction.{Correction}
-use Rattle.criterion.specs.declared.agq.Correction.the-variants.{Added, None}
+use Rattle.agq.specs.declared.Correction.{Correction}
+use Rattle.agq.specs.declared.Correction.the-variants.{Added, None}
 use Rattle.criterion.specs.declared.profile.Profile.{Profile}
-use Rattle.criterion.specs.Groups.{countOf}
-use Rattle.criterion.specs.LogDet.{logdetOf}
-use Rattle.criterion.specs.Agq.{agqOf}
+use Rattle.groups.specs.Groups.{countOf}
+use Rattle.logdet.specs.LogDet.{logdetOf}
+use Rattle.agq.specs.Agq.{agqOf}
 
 -- 2 pi
 abbrev pub twoPi : Float

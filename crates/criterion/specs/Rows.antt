@@ -24,9 +24,9 @@ use Rattle.penalized.specs.Penalized.{squaresOf, penaltySum}
 use Rattle.state.specs.Project.{projectOf}
 use Rattle.state.specs.Trial.{onScal, started, startFrom}
 use Rattle.fit.specs.Fit.{rounds, traceOf, fitOf}
-use Rattle.criterion.specs.Groups.{countOf, ownOf, gradientsAt, groupSquares}
-use Rattle.criterion.specs.LogDet.{addProducts, blockOf, logsOf, groupFactor, logdetOf}
-use Rattle.criterion.specs.Agq.{addQuotients, curvatureOf, scalingOf, nodeOf, movedOf, termOf, termsOf, addGroup, groupAt, groupsOf, agqOf}
+use Rattle.groups.specs.Groups.{countOf, ownOf, gradientsAt, groupSquares}
+use Rattle.logdet.specs.LogDet.{addProducts, blockOf, logsOf, groupFactor, logdetOf}
+use Rattle.agq.specs.Agq.{addQuotients, curvatureOf, scalingOf, nodeOf, movedOf, termOf, termsOf, addGroup, groupAt, groupsOf, agqOf}
 use Rattle.criterion.specs.Profile.{isScalar, dfOf, sigma2Of, laplaceOf, corrected, detOf, profileFrom, fourOf}
 use Rattle.criterion.specs.Answer.{profileOf}
 

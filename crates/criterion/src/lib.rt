@@ -1,7 +1,4 @@
-// The criterion at one theta: the public operation.
-pub mod agq;
-pub mod groups;
-pub mod logdet;
+// The criterion at one theta: the public operation, over fit.rs's `profile_objective`.
 pub mod profile;
 
 use crate::profile::Profile;

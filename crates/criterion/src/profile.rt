@@ -1,16 +1,16 @@
-// The criterion and sigma2 at what a fit answers.
-use crate::agq::Correction;
-use crate::agq::agq_correction;
-use crate::groups::count;
-use crate::logdet::random_effect_logdet;
+// The criterion and sigma2 at what a fit answers (`profile_objective`).
+use agq::Correction;
+use agq::agq_correction;
 use curves::mean_fn::n_params;
+use groups::count;
+use logdet::random_effect_logdet;
 use re_cov::log_det_sigma;
 use re_cov::re_penalty;
 ghost use mathlib.Core.Path.{_≡_};
 ghost use Prim.Native.Nat.{_≤_, _*_};
 ghost use lib.ListN.{length};
 ghost use Rattle.penalized.specs.Penalized.{penaltySum};
-ghost use Rattle.criterion.specs.Groups.{Lists};
+ghost use Rattle.groups.specs.Groups.{Lists};
 ghost use Rattle.criterion.specs.Profile.{isScalar, dfOf, sigma2Of, scalarOf, remlOf, laplaceOf, corrected, detOf, profileFrom};
 
 pub struct Profile {

@@ -1,14 +1,17 @@
 use mathlib.Core.Path.{_≡_}
-use Prim.Native.Nat.{_+_, _-_, _*_, _≤_}
+use Prim.Native.Nat.{ℕ, _+_, _-_, _*_, _≤_}
 use Rattle.math.specs.Loops.{iter, iter-none, iter-more, iter-all}
 use Rattle.math.specs.Basic.{zero}
 use Rattle.math.specs.Parts.{group-fits}
 use Rattle.penalized.specs.Penalized.{penaltyAt, penaltySum}
-use Rattle.criterion.proofs.Laws.{all-fit}
 use borrow.Author.Needs.{needs}
 use native.Mathlib.Omega.{arith}
+use native.Mathlib.Nat.{mul-le-mul-right}
 use Rattle.criterion.proofs.profile.penalties.Statement.{statement}
 use Rattle.criterion.proofs.profile.penalties.Tie as tie
+
+all-fit : (groups k : ℕ) → groups ≤ 32 → k ≤ 2 → groups * k ≤ 64
+all-fit groups k p q = omega (arith, mul-le-mul-right k p)
 
 abbrev Inv-loop : tie.InvT-loop
 Inv-loop k theta groups b t₀ g₀ t g = (g ≤ groups) × (t ≡ iter (penaltyAt k theta b) g zero)
