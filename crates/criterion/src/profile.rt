@@ -4,33 +4,17 @@ use agq::agq_correction;
 use curves::mean_fn::n_params;
 use groups::count;
 use logdet::random_effect_logdet;
+use penalized::penalties;
 use re_cov::log_det_sigma;
-use re_cov::re_penalty;
 ghost use mathlib.Core.Path.{_≡_};
-ghost use Prim.Native.Nat.{_≤_, _*_};
+ghost use Prim.Native.Nat.{_≤_};
 ghost use lib.ListN.{length};
-ghost use Rattle.penalized.specs.Penalized.{penaltySum};
 ghost use Rattle.groups.specs.Groups.{Lists};
 ghost use Rattle.criterion.specs.Profile.{isScalar, dfOf, sigma2Of, scalarOf, remlOf, laplaceOf, corrected, detOf, profileFrom};
 
 pub struct Profile {
     pub criterion: f64,
     pub sigma2: f64,
-}
-
-// Each group's penalty, one without readings too.
-fn penalties(k: usize, theta: &[f64], groups: usize, b: &[f64]) -> f64
-    requires { ⌜ (k ≤ 2) × ((groups ≤ 32) × (groups * k ≤ length (now b))) ⌝ }
-    ensures { λ r. ⌜ r ≡ penaltySum k groups (now (theta .entry)) (now (b .entry)) ⌝ }
-{
-    let mut t = 0.0;
-    let mut g = 0usize;
-    while g < groups {
-        let from = g * k;
-        t = t + re_penalty(k, theta, &b[from..from + k]);
-        g += 1;
-    }
-    t
 }
 
 // Curve 2 with one effect.

@@ -1,11 +1,10 @@
 // What the determinant and the quadrature both work out group by group: a group's own readings (fit.rs:
 // `group_obs`), their gradients and their sums at effects b. Counts as floats are here too.
-use curves::Mean;
 use curves::mean_fn::eval_mean_with_re;
+use penalized::normal::random_gradients;
 ghost use mathlib.Core.Path.{_≡_};
 ghost use Prim.Native.Nat.{_≤_};
 ghost use lib.ListN.{length, take};
-ghost use Rattle.penalized.specs.Normal.{randomGradients};
 ghost use Rattle.state.specs.Sized.{Effects};
 ghost use Rattle.groups.specs.Groups.{countOf, ownOf, nextPlace, sizeOf, gradientsAt, groupSquares};
 
@@ -58,27 +57,13 @@ pub fn own_readings(group: &[usize], g: usize, list: &[f64]) -> [f64; 512]
     own
 }
 
-// The gradients by the effects; for one effect the second is +0.
-fn by_effects(effects: &[usize], y: Mean) -> [f64; 2]
-    requires { ⌜ Effects (now effects) ⌝ }
-    ensures { λ r. ⌜ r ≡ randomGradients (now (effects .entry)) y ⌝ }
-{
-    let d = [y.d0, y.d1, y.d2, y.d3];
-    let j = effects[0];
-    if effects.len() == 1 {
-        return [d[j], 0.0];
-    }
-    let l = effects[1];
-    [d[j], d[l]]
-}
-
-// The same of the curve at dose x.
+// The gradients by the effects at dose x; for one effect the second is +0.
 pub fn gradients(code: u64, values: [f64; 4], effects: &[usize], b: &[f64], x: f64) -> [f64; 2]
     requires { ⌜ Effects (now effects) ⌝ }
     ensures { λ r. ⌜ r ≡ gradientsAt code (now (effects .entry)) values (now (b .entry)) x ⌝ }
 {
     let y = eval_mean_with_re(code, x, values, effects, b);
-    by_effects(effects, y)
+    random_gradients(effects, y)
 }
 
 // The rss of some readings at effects b.

@@ -72,11 +72,10 @@ pub fn evaluate(
 }
 
 // Each group's, one without readings too.
-pub fn penalties(k: usize, theta: &[f64], groups: usize, s: State) -> f64
-    requires { ⌜ (k ≤ 2) × (groups ≤ 32) ⌝ }
-    ensures { λ r. ⌜ r ≡ penaltySum k groups (now (theta .entry)) (s .effects) ⌝ }
+pub fn penalties(k: usize, theta: &[f64], groups: usize, b: &[f64]) -> f64
+    requires { ⌜ (k ≤ 2) × ((groups ≤ 32) × (groups * k ≤ length (now b))) ⌝ }
+    ensures { λ r. ⌜ r ≡ penaltySum k groups (now (theta .entry)) (now (b .entry)) ⌝ }
 {
-    let b = s.effects;
     let mut t = 0.0;
     let mut g = 0usize;
     while g < groups {

@@ -41,8 +41,8 @@ fn fixed_gradients(lower: &[f64], upper: &[f64], y: Mean) -> [f64; 4]
     ]
 }
 
-// The true gradients, whatever the bounds.
-fn random_gradients(effects: &[usize], y: Mean) -> [f64; 2]
+// The true gradients by the effects, whatever the bounds; for one effect the second is +0.
+pub fn random_gradients(effects: &[usize], y: Mean) -> [f64; 2]
     requires { ⌜ Effects (now effects) ⌝ }
     ensures { λ r. ⌜ r ≡ randomGradients (now (effects .entry)) y ⌝ }
 {

@@ -65,7 +65,8 @@ pub fn evaluate_state(
         × Means code (now (effects .entry)) (now (doses .entry)) (now (group .entry)) s (now (means .exit)) ⌝ }
 {
     let rss = evaluate(code, s, effects, doses, grams, group, means);
-    let penalty = penalties(effects.len(), theta, groups, s);
+    let b = s.effects;
+    let penalty = penalties(effects.len(), theta, groups, &b);
     Evaluated {
         state: s,
         rss: rss,

@@ -8,12 +8,12 @@ use Rattle.groups.proofs.gradients.Tie as tie
 eval-mean-with-re-requires : tie.Need-eval-mean-with-re-requires
 eval-mean-with-re-requires c κs = search needs
 
-by-effects-requires : tie.Need-by-effects-requires
-by-effects-requires c κs = search needs
+random-gradients-requires : tie.Need-random-gradients-requires
+random-gradients-requires c κs = search needs
 
 returns : tie.Need-returns
 unfolding gradientsAt
-returns c = c .by-effects .ensures ∙ ap (randomGradients _) (c .before .eval-mean-with-re .ensures)
+returns c = c .random-gradients .ensures ∙ ap (randomGradients _) (c .before .eval-mean-with-re .ensures)
 
 pub gradients-spec : {M : Type 1} → statement M
-gradients-spec = tie.close (tie.spec eval-mean-with-re-requires by-effects-requires returns)
+gradients-spec = tie.close (tie.spec eval-mean-with-re-requires random-gradients-requires returns)

@@ -1,13 +1,13 @@
--- `penalties`: the sum of the groups before g; a group's part begins at g * k and lies within the 64 places. Assumes nothing.
+-- The sum of the groups before g; a group's part begins at g * k and lies within the list. Assumes nothing.
 use mathlib.Core.Path.{_≡_}
-use Prim.Native.Nat.{_*_, _+_, _-_, _≤_}
-use native.Mathlib.Omega.{arith}
-use borrow.Author.Needs.{needs}
-use lib.ListN.{length}
+use Prim.Native.Nat.{ℕ, _+_, _-_, _*_, _≤_}
+use Rattle.math.specs.Loops.{iter, iter-none, iter-more, iter-all}
 use Rattle.math.specs.Basic.{zero}
-use Rattle.math.specs.Loops.{iter, iter-all, iter-more, iter-none}
+use Rattle.math.specs.Parts.{group-fits}
 use Rattle.penalized.specs.Penalized.{penaltyAt, penaltySum}
-use Rattle.state.specs.Sized.{slot-fits}
+use Rattle.state.specs.Sized.{all-fit}
+use borrow.Author.Needs.{needs}
+use native.Mathlib.Omega.{arith}
 use Rattle.penalized.proofs.penalties.Statement.{statement}
 use Rattle.penalized.proofs.penalties.Tie as tie
 
@@ -21,24 +21,22 @@ loop-holds : tie.Need-loop-holds Inv-loop μ-loop
 loop-holds c = (omega arith, iter-none _ _)
 
 mul-from : tie.Need-mul-from Inv-loop μ-loop
-mul-from c = omega (arith, slot-fits (c .before .loop .g) (c .before .before .before .before .args .groups) (c .before .before .before .before .args .k) (c .loop-test .taken) (c .before .before .before .before .pre .1) (c .before .before .before .before .pre .0))
+mul-from c = omega (arith, group-fits (c .before .loop .g) (c .before .before .before .before .args .groups) (c .before .before .before .before .args .k) (c .loop-test .taken), all-fit (c .before .before .before .before .args .groups) (c .before .before .before .before .args .k) (c .before .before .before .before .pre .1 .0) (c .before .before .before .before .pre .0), c .before .before .before .before .pre .1 .1)
 
 add-re-penalty : tie.Need-add-re-penalty Inv-loop μ-loop
-add-re-penalty c = omega (arith, slot-fits (c .before .loop .g) (c .before .before .before .before .args .groups) (c .before .before .before .before .args .k) (c .loop-test .taken) (c .before .before .before .before .pre .1) (c .before .before .before .before .pre .0))
+add-re-penalty c = omega (arith, group-fits (c .before .loop .g) (c .before .before .before .before .args .groups) (c .before .before .before .before .args .k) (c .loop-test .taken), all-fit (c .before .before .before .before .args .groups) (c .before .before .before .before .args .k) (c .before .before .before .before .pre .1 .0) (c .before .before .before .before .pre .0), c .before .before .before .before .pre .1 .1)
 
 mul-re-penalty : tie.Need-mul-re-penalty Inv-loop μ-loop
-mul-re-penalty c = omega (arith, slot-fits (c .before .loop .g) (c .before .before .before .before .args .groups) (c .before .before .before .before .args .k) (c .loop-test .taken) (c .before .before .before .before .pre .1) (c .before .before .before .before .pre .0))
+mul-re-penalty c = omega (arith, group-fits (c .before .loop .g) (c .before .before .before .before .args .groups) (c .before .before .before .before .args .k) (c .loop-test .taken), all-fit (c .before .before .before .before .args .groups) (c .before .before .before .before .args .k) (c .before .before .before .before .pre .1 .0) (c .before .before .before .before .pre .0), c .before .before .before .before .pre .1 .1)
 
 sub-re-penalty : tie.Need-sub-re-penalty Inv-loop μ-loop
-sub-re-penalty c = omega (arith, slot-fits (c .before .loop .g) (c .before .before .before .before .args .groups) (c .before .before .before .before .args .k) (c .loop-test .taken) (c .before .before .before .before .pre .1) (c .before .before .before .before .pre .0))
+sub-re-penalty c = omega (arith, group-fits (c .before .loop .g) (c .before .before .before .before .args .groups) (c .before .before .before .before .args .k) (c .loop-test .taken), all-fit (c .before .before .before .before .args .groups) (c .before .before .before .before .args .k) (c .before .before .before .before .pre .1 .0) (c .before .before .before .before .pre .0), c .before .before .before .before .pre .1 .1)
 
 part-re-penalty-start : tie.Need-part-re-penalty-start Inv-loop μ-loop
-part-re-penalty-start c = omega (arith, slot-fits (c .before .before .loop .g) (c .before .before .before .before .before .args .groups) (c .before .before .before .before .before .args .k) (c .before .loop-test .taken) (c .before .before .before .before .before .pre .1) (c .before .before .before .before .before .pre .0))
+part-re-penalty-start c = omega (arith, group-fits (c .before .loop .g) (c .before .before .before .before .args .groups) (c .before .before .before .before .args .k) (c .loop-test .taken), all-fit (c .before .before .before .before .args .groups) (c .before .before .before .before .args .k) (c .before .before .before .before .pre .1 .0) (c .before .before .before .before .pre .0), c .before .before .before .before .pre .1 .1)
 
 part-re-penalty-end : tie.Need-part-re-penalty-end Inv-loop μ-loop
-part-re-penalty-end c =
-    let h : length (c .before .before .before .before .before .args .s .effects) ≡ 64 = search needs in
-    omega (arith, slot-fits (c .before .before .loop .g) (c .before .before .before .before .before .args .groups) (c .before .before .before .before .before .args .k) (c .before .loop-test .taken) (c .before .before .before .before .before .pre .1) (c .before .before .before .before .before .pre .0))
+part-re-penalty-end c = omega (arith, group-fits (c .before .loop .g) (c .before .before .before .before .args .groups) (c .before .before .before .before .args .k) (c .loop-test .taken), all-fit (c .before .before .before .before .args .groups) (c .before .before .before .before .args .k) (c .before .before .before .before .pre .1 .0) (c .before .before .before .before .pre .0), c .before .before .before .before .pre .1 .1)
 
 re-penalty-requires : tie.Need-re-penalty-requires Inv-loop μ-loop
 re-penalty-requires c κs = search needs
@@ -51,8 +49,8 @@ loop-less c = omega arith
 
 loop-again : tie.Need-loop-again Inv-loop μ-loop
 loop-again c =
-    let l = c .before .before .before .before .loop in
-    let a = c .before .before .before .before .before .before .before .args in
+    let l = c .before .before .before .loop in
+    let a = c .before .before .before .before .before .before .args in
     let e : l .g * a .k + a .k - l .g * a .k ≡ a .k = omega arith in
     (omega arith, rw (rw e at (c .re-penalty .ensures)) (iter-more _ _ _ (l .inv .1)))
 
