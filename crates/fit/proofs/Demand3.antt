@@ -14,8 +14,8 @@ use Rattle.problem.specs.Problem.{Problem, p, k}
 use Rattle.problem.specs.Faults.{refusalOf}
 use Rattle.problem.specs.Valid.{Valid, fit-valid}
 use Rattle.state.specs.declared.State.{State}
-use Rattle.penalized.specs.Penalized.{sumOf}
 use Rattle.state.specs.Trial.{startOf, firstLambda}
+use Rattle.penalized.specs.Penalized.{sumOf}
 use Rattle.rounds.specs.Round.{Trial, Trace, lastOf}
 use Rattle.fit.specs.Fit.{rounds, traceOf, wholeOf, fitOf}
 use Rattle.fit.specs.Demand3 as Claim

@@ -19,9 +19,9 @@ use Rattle.block_solve.proofs.Sound.{Sound, direction-sound}
 use Rattle.problem.specs.Problem.{Problem, p, k}
 use Rattle.problem.specs.Valid.{Valid}
 use Rattle.state.specs.declared.State.{State}
+use Rattle.state.specs.Trial.{triedOf, largestOf, stepOf, lowered, raised}
 use Rattle.penalized.specs.Penalized.{sumOf}
 use Rattle.penalized.specs.Normal.{normalOf}
-use Rattle.state.specs.Trial.{triedOf, largestOf, stepOf, lowered, raised}
 use Rattle.rounds.specs.Round.{1e-10, Trial, Trace, ended, tried, direction, lengths, along, attempts}
 use Rattle.fit.specs.Fit.{won, begun, rounds}
 use Rattle.fit.specs.Demand3.{InBounds, winnersOf}

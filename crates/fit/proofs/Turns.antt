@@ -9,9 +9,9 @@ use lib.ListN.{length, take, length-take}
 use Rattle.block_solve.specs.declared.normal.BlockNormal.{BlockNormal}
 use Rattle.problem.specs.Problem.{Problem, problemOf}
 use Rattle.state.specs.declared.State.{State}
+use Rattle.state.specs.Trial.{startOf, firstLambda}
 use Rattle.penalized.specs.Penalized.{sumOf, rssOf, Means}
 use Rattle.penalized.specs.Normal.{normalOf}
-use Rattle.state.specs.Trial.{startOf, firstLambda}
 use Rattle.rounds.specs.declared.Evaluated.{Evaluated}
 use Rattle.rounds.specs.declared.Outcome.{Outcome}
 use Rattle.rounds.specs.declared.Ended.{Ended}

@@ -8,8 +8,8 @@ use lib.Ieee.{Float, nan, lt, isNan}
 use lib.ListN.{length, getD, take}
 use Rattle.problem.specs.Problem.{Problem, p, k}
 use Rattle.state.specs.declared.State.{State}
-use Rattle.penalized.specs.Penalized.{sumOf}
 use Rattle.state.specs.Trial.{startOf}
+use Rattle.penalized.specs.Penalized.{sumOf}
 use Rattle.rounds.specs.Round.{Trial}
 use Rattle.fit.specs.Fit.{Fit, answerOf}
 

@@ -7,12 +7,12 @@ use lib.Ieee.{Float, lt}
 use lib.ListN.{length, take}
 use Rattle.problem.specs.Problem.{Problem, p, k}
 use Rattle.state.specs.declared.State.{State}
+use Rattle.state.specs.Trial.{startOf, firstLambda}
 use Rattle.penalized.specs.Penalized.{rssOf, sumOf}
 use Rattle.penalized.specs.Normal.{normalOf}
-use Rattle.state.specs.Trial.{startOf, firstLambda}
 use Rattle.rounds.specs.Round.{1e-10, Trial, Trace, ended, lastOf, attempts}
 
--- first a win, the beginning of a round; then t
+-- first a win, or the beginning of a round; then t
 abbrev pub won : State → Trace → Trace
 won z t = record { accepted = z ∷ t .accepted; trials = t .trials; rounds = t .rounds; converged = t .converged }
 

@@ -9,9 +9,9 @@ use lib.Ieee.{Float, lt}
 use lib.ListN.{length, take}
 use Rattle.problem.specs.Problem.{Problem, p, k}
 use Rattle.state.specs.declared.State.{State}
+use Rattle.state.specs.Trial.{startOf, firstLambda}
 use Rattle.penalized.specs.Penalized.{rssOf, sumOf}
 use Rattle.penalized.specs.Normal.{normalOf}
-use Rattle.state.specs.Trial.{startOf, firstLambda}
 use Rattle.rounds.specs.declared.Evaluated.{Evaluated}
 use Rattle.rounds.specs.declared.Ended.{Ended}
 use Rattle.rounds.specs.Round.{1e-10, Trace, ended, lastOf, attempts}

@@ -16,8 +16,8 @@ use Rattle.block_solve.specs.Direction.{isSome, finiteOnly, isDirection, leftIn
 use Rattle.problem.specs.Problem.{Problem, problemOf}
 use Rattle.state.specs.declared.State.{State}
 use Rattle.state.specs.Sized.{Effects, params-most}
-use Rattle.penalized.specs.Penalized.{sumOf, Means}
 use Rattle.state.specs.Trial.{triedOf, largestOf, stepOf, lowered, raised}
+use Rattle.penalized.specs.Penalized.{sumOf, Means}
 use Rattle.rounds.specs.declared.Evaluated.{Evaluated}
 use Rattle.rounds.specs.declared.Outcome.{Outcome}
 use Rattle.rounds.specs.Round.{1e-10, Trace, lengths, attempts, direction}

@@ -10,8 +10,8 @@ use Rattle.block_solve.specs.declared.normal.BlockNormal.{BlockNormal}
 use Rattle.block_solve.specs.Direction.{directionOf}
 use Rattle.problem.specs.Problem.{Problem, p, k}
 use Rattle.state.specs.declared.State.{State}
-use Rattle.penalized.specs.Penalized.{sumOf}
 use Rattle.state.specs.Trial.{triedOf, largestOf, stepOf, lowered, raised}
+use Rattle.penalized.specs.Penalized.{sumOf}
 
 -- a proposal or a step below it ends the fit as converged
 abbrev pub 1e-10 : Float

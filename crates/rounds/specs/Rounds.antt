@@ -1,4 +1,4 @@
--- What the functions of the code ask for and promise.
+-- What the functions of one round, src/lib.rt, ask for and promise.
 use Prim.Native.Nat.{ℕ, _+_, _*_, _≤_}
 use mathlib.Core.Path.{_≡_, refl, sym, ap, _∙_}
 use mathlib.Core.Bool.{Bool, true, false}

@@ -12,8 +12,8 @@ use Rattle.math.specs.Basic.{mul, one, half}
 use Rattle.block_solve.specs.declared.normal.BlockNormal.{BlockNormal}
 use Rattle.problem.specs.Problem.{Problem}
 use Rattle.state.specs.declared.State.{State}
-use Rattle.penalized.specs.Penalized.{rssOf, sumOf}
 use Rattle.state.specs.Trial.{triedOf, largestOf, stepOf, lowered, raised}
+use Rattle.penalized.specs.Penalized.{rssOf, sumOf}
 use Rattle.rounds.specs.declared.Ended.{Ended}
 use Rattle.rounds.specs.Round.{1e-10, Trace, ended, tried, lastOf, direction, lengths, along, attempts}
 

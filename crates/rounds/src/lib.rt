@@ -1,6 +1,6 @@
 // One round of a fit (a turn of `inner_gauss_newton_status`): up to 12 attempts, each a direction and up
 // to 20 lengths of it. Each state's curves are worked out once: its trial leaves them in `means`, and
-// the round that starts from it builds its normal blocks from there.
+// the normal blocks of the round that starts from it are built from there.
 use block_solve::normal::BlockNormal;
 use curves::mean_fn::n_params;
 use penalized::evaluate;
@@ -15,8 +15,8 @@ ghost use mathlib.Core.Path.{_≡_};
 ghost use Prim.Native.Nat.{_≤_};
 ghost use lib.ListN.{length};
 ghost use Rattle.state.specs.Sized.{Effects, Readings};
-ghost use Rattle.penalized.specs.Penalized.{Means};
 ghost use Rattle.state.specs.Trial.{triedFrom};
+ghost use Rattle.penalized.specs.Penalized.{Means};
 ghost use Rattle.rounds.specs.Rounds.{evaluatedFrom, lostWith, Sizes, RoundAnswer};
 
 // A state with its rss and its penalised sum.
@@ -36,7 +36,7 @@ pub struct Outcome {
     pub trials: usize,
 }
 
-// What a run of rounds ends in; a round is promised by what it makes of that.
+// What a run of rounds ends in. It stands here since a round's contract says what the round makes of it.
 pub struct Ended {
     pub state: State,
     pub rss: f64,
