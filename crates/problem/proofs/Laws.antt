@@ -1,46 +1,15 @@
--- The order of two lists, place by place as the loop tests it, and the first of two lists of faults. Assumes nothing.
-use Prim.Native.Nat.{ℕ, zero, suc, _+_, _≤_, _<_}
-use mathlib.Core.Path.{_≡_, refl, sym, ap, _∙_}
-use mathlib.Core.Bool.{Bool, true, false, not, _&&_}
+-- The first of two lists of faults. Assumes nothing.
+use Prim.Native.Nat.{ℕ, suc, _+_, _≤_, _<_}
+use mathlib.Core.Path.{_≡_, sym, ap, _∙_}
+use mathlib.Core.Bool.{Bool, true, false}
 use mathlib.Core.List.{List, [], _∷_, _++_}
 use native.Mathlib.Nat.{add-zero, zero-lt-suc}
-use native.Mathlib.Numerals.{add-one}
 use native.Mathlib.Omega.{arith}
-use borrow.Author.Tests.{not-true, not-false}
-use lib.Ieee.{Float, nan, lt}
-use lib.ListN.{length, getD, drop, drop-of-length-le}
-use lib.Seq.{drop-cons}
-use Rattle.problem.specs.Lists.{inOrder}
+use lib.Ieee.{Float}
+use lib.ListN.{length}
 use Rattle.problem.specs.Faults.{firstFrom, firstFive, early, fitLater, searchLater, refusalOf, searchRefusalOf}
 use Rattle.problem.specs.Problem.{Problem, problemOf}
 use Rattle.problem.specs.Valid.{first-none, sized}
-
-module _ (xs ys : List Float) (i : ℕ) where
-  pub order-stop : i < length xs → i < length ys → lt (getD ys i nan) (getD xs i nan) ≡ true → inOrder (drop i xs) (drop i ys) ≡ false
-  unfolding inOrder
-  order-stop p q h = rw (drop-cons xs i nan p, drop-cons ys i nan q, h)
-
-  pub order-go : i < length xs → i < length ys → lt (getD ys i nan) (getD xs i nan) ≡ false → inOrder (drop (i + 1) xs) (drop (i + 1) ys) ≡ inOrder (drop i xs) (drop i ys)
-  unfolding inOrder
-  order-go p q h = rw (add-one i, drop-cons xs i nan p, drop-cons ys i nan q, h)
-
-  pub order-done : length xs ≤ i → inOrder (drop i xs) (drop i ys) ≡ true
-  unfolding inOrder
-  order-done p = rw (drop-of-length-le xs p)
-
-  pub order-short : i < length xs → length ys ≤ i → inOrder (drop i xs) (drop i ys) ≡ true
-  unfolding inOrder
-  order-short p q = rw (drop-cons xs i nan p, drop-of-length-le ys q)
-
--- ---- the test of a call's answer, which is a definition's value
-
-pub failed : {r b : Bool} → r ≡ b → not r ≡ true → b ≡ false
-failed e h = sym e ∙ not-true _ h
-
-pub passed : {r b : Bool} → r ≡ b → not r ≡ false → b ≡ true
-passed e h = sym e ∙ not-false _ h
-
--- ---- the first of two lists of faults
 
 pub first-kept : (i : ℕ) (a b : List Bool) {n : ℕ} → n ≡ firstFrom i a → (n ≡ 0 → ⊥) → n ≡ firstFrom i (a ++ b)
 unfolding firstFrom

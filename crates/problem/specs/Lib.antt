@@ -1,4 +1,3 @@
-pub mod Lists
 pub mod Problem
 pub mod Faults
 pub mod Valid

@@ -10,9 +10,10 @@ use lib.Ieee as Ieee
 use Rattle.math.specs.Basic.{isFinite, bits, zero, one, two}
 use Rattle.math.specs.Lists.{every}
 use Rattle.curves.specs.MeanFn.{nParamsOf}
-use Rattle.problem.specs.Lists.{inOrder}
+use Rattle.faults.specs.Lists.{inOrder}
+use Rattle.faults.specs.Tests.{badCode, badReadings, badGroups, badEffects, badLengths, badTheta, badNumbers, badOrder, badOutputs, tooMany}
 use Rattle.problem.specs.Problem.{Problem, problemOf, p, k}
-use Rattle.problem.specs.Faults.{badCode, badReadings, badGroups, badEffects, badLengths, badTheta, badNumbers, badOrder, badOutputs, tooMany, firstFrom, refusalOf, searchRefusalOf}
+use Rattle.problem.specs.Faults.{firstFrom, refusalOf, searchRefusalOf}
 
 -- `unfolding refusal-computes` opens all that a refusal is computed by
 unfoldable pub refusal-computes : Unit {0}

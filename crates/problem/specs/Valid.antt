@@ -12,9 +12,10 @@ use borrow.Author.Tests.{ltb-true, ltb-false, eqb-true, eqb-false, eq-eqb, not-f
 use Rattle.math.specs.Basic.{isFinite}
 use Rattle.math.specs.Lists.{every, every-at}
 use Rattle.curves.specs.MeanFn.{nParamsOf}
-use Rattle.problem.specs.Lists.{inOrder, order-at}
+use Rattle.faults.specs.Lists.{inOrder, order-at}
+use Rattle.faults.specs.Tests.{isLower, isUpper, allBelow, badCode, badReadings, badGroups, badEffects, badLengths, badTheta, badNumbers, badOrder, badOutputs, tooMany}
 use Rattle.problem.specs.Problem.{Problem, p, k, atTheta}
-use Rattle.problem.specs.Faults.{isLower, isUpper, allBelow, badCode, badReadings, badGroups, badEffects, badLengths, badTheta, badNumbers, badOrder, badOutputs, tooMany, early, wrongLengths, wrongNumbers, wrongOrder, fitLater, searchLater, firstFrom, refusalOf, searchRefusalOf}
+use Rattle.problem.specs.Faults.{early, wrongLengths, wrongNumbers, wrongOrder, fitLater, searchLater, firstFrom, refusalOf, searchRefusalOf}
 
 -- without 1 to 5
 pub record Sized (q : Problem) : Type 0 where

@@ -1,5 +1,5 @@
 use mathlib.Core.Path.{sym, _∙_}
-use Rattle.problem.proofs.Laws.{failed, passed}
+use Rattle.faults.proofs.Laws.{failed, passed}
 use Rattle.problem.specs.Faults.{firstFrom}
 use borrow.Author.Needs.{needs}
 use Rattle.problem.proofs.first_five.Statement.{statement}

@@ -1,6 +1,7 @@
 -- Each test answers one definition, so at each return the tests before it, and its own, decide the list of faults. Assumes nothing.
 use mathlib.Core.Path.{sym, _∙_}
-use Rattle.problem.proofs.Laws.{failed, passed, fit-early, fit-late, few-places}
+use Rattle.faults.proofs.Laws.{failed, passed}
+use Rattle.problem.proofs.Laws.{fit-early, fit-late, few-places}
 use Rattle.problem.specs.Faults.{firstFrom}
 use borrow.Author.Needs.{needs}
 use Rattle.problem.proofs.fit_fault.Statement.{statement}
