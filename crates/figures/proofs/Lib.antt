@@ -1,9 +1,2 @@
 pub mod Digits
 pub mod Parts
-pub mod Lines
-pub mod Filling
-mod FloatExamples
-mod FloatMeaning
-mod NearestLaws
-mod FloatLaws
-mod FloatTexts

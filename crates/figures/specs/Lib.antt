@@ -1,4 +1,2 @@
 pub mod Text
 pub mod Laws
-pub mod Floats
-pub mod Lines

@@ -1,16 +1,9 @@
 // Text for a person, written into a lent buffer. What does not fit is told: a place that is full stays full, and
 // its caller asks once, at the end.
-pub mod columns;
-pub mod floats;
-pub mod template;
-pub mod words;
-
 ghost use mathlib.Core.Path.{_≡_};
-ghost use mathlib.Core.List.{_++_};
 ghost use Prim.Native.Nat.{min};
 ghost use lib.Seq.{slice};
 ghost use Rattle.figures.specs.Text.{start, wrote, wroteByte, wholeText};
-ghost use Rattle.figures.specs.Floats.{fixedText, figureText};
 
 // How many bytes of the buffer are written, and whether something did not fit.
 pub struct Place {
@@ -24,7 +17,7 @@ pub fn begin() -> Place
     Place { at: 0, full: false }
 }
 
-fn byte(out: &mut [u8], p: Place, b: u8) -> Place
+pub fn byte(out: &mut [u8], p: Place, b: u8) -> Place
     ensures { λ r. ⌜ (now (out .exit), r) ≡ wroteByte (now (out .entry)) p b ⌝ }
 {
     let at = p.at;
@@ -54,7 +47,7 @@ pub fn put(out: &mut [u8], p: Place, text: &[u8]) -> Place
     q
 }
 
-fn lesser(a: usize, b: usize) -> usize
+pub fn lesser(a: usize, b: usize) -> usize
     ensures { λ r. ⌜ r ≡ min a b ⌝ }
 {
     if a < b {
@@ -79,28 +72,4 @@ pub fn whole(out: &mut [u8], p: Place, n: u64) -> Place
     let mut text = [0u8; 20];
     let k = io::decimal(n, &mut text);
     put(out, p, &text[..k])
-}
-
-// A text and then a whole number.
-pub fn with_whole(out: &mut [u8], p: Place, text: &[u8], n: u64) -> Place
-    ensures { λ r. ⌜ (now (out .exit), r) ≡ wrote (now (out .entry)) p (now (text .entry) ++ wholeText n) ⌝ }
-{
-    let q = put(out, p, text);
-    whole(out, q, n)
-}
-
-// A text and then a float with so many decimals.
-pub fn with_fixed(out: &mut [u8], p: Place, text: &[u8], x: f64, decimals: u64) -> Place
-    ensures { λ r. ⌜ (now (out .exit), r) ≡ wrote (now (out .entry)) p (now (text .entry) ++ fixedText x decimals) ⌝ }
-{
-    let q = put(out, p, text);
-    floats::fixed(out, q, x, decimals)
-}
-
-// A text and then a float to seven significant digits.
-pub fn with_figure(out: &mut [u8], p: Place, text: &[u8], x: f64) -> Place
-    ensures { λ r. ⌜ (now (out .exit), r) ≡ wrote (now (out .entry)) p (now (text .entry) ++ figureText x) ⌝ }
-{
-    let q = put(out, p, text);
-    floats::figure(out, q, x)
 }

@@ -7,8 +7,8 @@ use lib.IntN.{pos}
 use Rattle.math.specs.Basic.{add, sub, mul, div, bits, zero, one, two, absOf, maxOf, isFinite}
 use Rattle.math.specs.Words.{toInt}
 use Rattle.math.specs.Loops.{iter}
-use Rattle.figures.specs.Floats.{nearestWhole, inTens}
-use Rattle.figures.specs.declared.floats.Scaled.{Scaled}
+use Rattle.floats.specs.Floats.{nearestWhole, inTens}
+use Rattle.floats.specs.declared.Scaled.{Scaled}
 use Rattle.picture.specs.declared.ranges.Range.{Range}
 use Rattle.picture.specs.declared.axes.Axis.{Axis}
 

@@ -6,7 +6,7 @@ use lib.Dec.{eqb, ltb}
 use lib.ListN.{length, getD}
 use Rattle.math.specs.Loops.{iter, span}
 use Rattle.figures.specs.Text.{bytes}
-use Rattle.figures.specs.Lines.{wordOf}
+use Rattle.lines.specs.Lines.{wordOf}
 
 -- the texts number 0 to n - 1
 abbrev pub each : (ℕ → List ℕ) → ℕ → List ℕ

@@ -6,8 +6,8 @@ use lib.Ieee.{Float, binary64, ofInt}
 use lib.IntN.{pos}
 use Rattle.math.specs.Basic.{add, mul, bits}
 use Rattle.figures.specs.Text.{bytes}
-use Rattle.figures.specs.Floats.{fixedText}
-use Rattle.figures.specs.Lines.{wordOf}
+use Rattle.floats.specs.Floats.{fixedText}
+use Rattle.lines.specs.Lines.{wordOf}
 use Rattle.picture.specs.declared.axes.Axis.{Axis}
 use Rattle.picture.specs.Axes.{xPixel, yPixel}
 use Rattle.picture.specs.Marks.{numberText}

@@ -3,8 +3,8 @@ use Prim.Native.Nat.{ℕ, _+_, _*_, _/_, _%_}
 use mathlib.Core.List.{List, _++_}
 use lib.Ieee.{Float}
 use Rattle.figures.specs.Text.{bytes}
-use Rattle.figures.specs.Floats.{fixedText}
-use Rattle.figures.specs.Lines.{wordOf}
+use Rattle.floats.specs.Floats.{fixedText}
+use Rattle.lines.specs.Lines.{wordOf}
 
 -- a text and then a number with one decimal
 abbrev pub numberText : List ℕ → Float → List ℕ

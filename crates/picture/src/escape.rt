@@ -1,7 +1,7 @@
 // Text inside an XML element.
 use figures::Place;
 use figures::put;
-use figures::words::word;
+use lines::words::word;
 ghost use Prim.Native.Nat.{min};
 ghost use mathlib.Core.Path.{_≡_};
 ghost use Rattle.figures.specs.Text.{wrote};

@@ -1,9 +1,9 @@
 // A number of the picture, and the colour and the shape of a canister's marks: eight colours that the colour-blind tell apart (Okabe and Ito, with grey
 // in place of yellow, which is too light on white) and five shapes. No two of 32 canisters have both alike.
 use figures::Place;
-use figures::floats::fixed;
 use figures::put;
-use figures::words::word;
+use floats::fixed;
+use lines::words::word;
 ghost use mathlib.Core.Path.{_≡_};
 ghost use Rattle.figures.specs.Text.{wrote};
 ghost use Rattle.picture.specs.Marks.{numberText, colourText, shapeText};

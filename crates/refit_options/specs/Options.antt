@@ -6,7 +6,7 @@ use lib.Dec.{eqb, ltb}
 use lib.ListN.{length, getD, drop}
 use Rattle.math.specs.Lists.{sameBytes}
 use Rattle.figures.specs.Text.{bytes}
-use Rattle.figures.specs.Lines.{wordOf}
+use Rattle.lines.specs.Lines.{wordOf}
 use Rattle.refit_options.specs.declared.options.Options.{Options}
 use Rattle.refit_options.specs.Words.{numberFrom, nameOf, curveOf, placeOf}
 

@@ -7,7 +7,7 @@ use lib.Dec.{eqb}
 use lib.ListN.{getD}
 use Rattle.math.specs.Lists.{sameBytes}
 use Rattle.figures.specs.Text.{bytes, wholeText}
-use Rattle.figures.specs.Lines.{wordOf}
+use Rattle.lines.specs.Lines.{wordOf}
 
 -- the number of a word among some, the first of which has number n; 0 for any other word
 abbrev pub numberFrom : ℕ → List String → List ℕ → ℕ

@@ -4,7 +4,7 @@ use crate::words::curve_of;
 use crate::words::name_of;
 use crate::words::place_of;
 use figures::Place;
-use figures::words::word;
+use lines::words::word;
 ghost use mathlib.Core.Path.{_≡_};
 ghost use Prim.Native.Nat.{_≤_};
 ghost use Rattle.figures.specs.Text.{wrote};

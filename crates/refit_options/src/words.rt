@@ -3,7 +3,7 @@ use crate::same_bytes;
 use figures::Place;
 use figures::put;
 use figures::whole;
-use figures::words::word;
+use lines::words::word;
 ghost use mathlib.Core.Path.{_≡_};
 ghost use mathlib.Core.List.{[], _∷_};
 ghost use lib.ListN.{getD};

@@ -8,7 +8,7 @@ use lib.ListN.{length, getD}
 use Rattle.math.specs.Basic.{mul, bits}
 use Rattle.math.specs.Sqrt.{sqrtOf}
 use Rattle.figures.specs.Text.{bytes}
-use Rattle.figures.specs.Lines.{wordOf, filled}
+use Rattle.lines.specs.Lines.{wordOf, filled}
 use Rattle.refit_calculation.specs.declared.Answer.{Answer}
 use Rattle.refit_options.specs.declared.options.Options.{Options}
 use Rattle.refit_options.specs.Words.{nameText, refusalText}

@@ -10,8 +10,8 @@ use Rattle.math.specs.Basic.{add, sub, bits, absOf, maxOf}
 use Rattle.math.specs.Basic as Basic
 use Rattle.math.specs.Loops.{span}
 use Rattle.figures.specs.Text.{bytes}
-use Rattle.figures.specs.Lines.{leftText, cellText, wordOf}
-use Rattle.figures.specs.Floats.{decimalsOf, fixedText, figureText}
+use Rattle.lines.specs.Lines.{leftText, cellText, wordOf}
+use Rattle.floats.specs.Floats.{decimalsOf, fixedText, figureText}
 use Rattle.picture.specs.Ranges.{curveAt}
 use Rattle.picture.specs.Escape.{each}
 

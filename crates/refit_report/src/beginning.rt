@@ -1,7 +1,7 @@
 // What begins a report: where the readings are from and what was asked.
 use figures::Place;
 use figures::put;
-use figures::template::fill;
+use lines::template::fill;
 use refit_options::options::Options;
 use refit_options::words::curve;
 use refit_options::words::name;

@@ -1,9 +1,9 @@
 // The two tables of a report: each canister's own curve, and each reading beside its curve.
 use figures::Place;
-use figures::columns;
-use figures::floats::decimals;
 use figures::put;
-use figures::words::word;
+use floats::decimals;
+use lines::columns;
+use lines::words::word;
 use picture::curve_at;
 ghost use mathlib.Core.Path.{_≡_};
 ghost use lib.ListN.{length, getD};

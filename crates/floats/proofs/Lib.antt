@@ -1,0 +1,5 @@
+mod FloatExamples
+mod FloatMeaning
+mod NearestLaws
+mod FloatLaws
+mod FloatTexts
