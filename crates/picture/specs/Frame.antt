@@ -8,10 +8,10 @@ use Rattle.math.specs.Basic.{add, mul, bits}
 use Rattle.figures.specs.Text.{bytes}
 use Rattle.floats.specs.Floats.{fixedText}
 use Rattle.lines.specs.Lines.{wordOf}
-use Rattle.picture.specs.declared.axes.Axis.{Axis}
-use Rattle.picture.specs.Axes.{xPixel, yPixel}
-use Rattle.picture.specs.Marks.{numberText}
-use Rattle.picture.specs.Escape.{each}
+use Rattle.scales.specs.declared.axes.Axis.{Axis}
+use Rattle.scales.specs.Axes.{xPixel, yPixel}
+use Rattle.marks.specs.Marks.{numberText}
+use Rattle.marks.specs.Escape.{each}
 
 -- ---- the axes: tick i of the count + 1 ticks, with a line of the grid, and its label
 

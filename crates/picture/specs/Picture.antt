@@ -6,13 +6,13 @@ use lib.Dec.{eqb}
 use lib.Ieee.{Float}
 use lib.ListN.{length}
 use Rattle.figures.specs.Text.{bytes}
-use Rattle.picture.specs.declared.ranges.Range.{Range}
-use Rattle.picture.specs.declared.axes.Axis.{Axis}
-use Rattle.picture.specs.Ranges.{listRange, withCurves}
-use Rattle.picture.specs.Axes.{axisOf}
-use Rattle.picture.specs.Escape.{each}
+use Rattle.scales.specs.declared.ranges.Range.{Range}
+use Rattle.scales.specs.declared.axes.Axis.{Axis}
+use Rattle.scales.specs.Ranges.{listRange, withCurves}
+use Rattle.scales.specs.Axes.{axisOf}
+use Rattle.marks.specs.Escape.{each}
 use Rattle.picture.specs.Frame.{frameText}
-use Rattle.picture.specs.Canister.{curveText, readingsText, legendText}
+use Rattle.canister.specs.Canister.{curveText, readingsText, legendText}
 
 unfoldable pub canisterText : ℕ → ℕ → List ℕ → List Float → List Float → List ℕ → List ℕ → List Float → List Float → Range → Axis → Axis → ℕ → List ℕ
 canisterText code place text doses grams group names values b r h v g =

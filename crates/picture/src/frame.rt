@@ -1,12 +1,12 @@
 // The title, the axes with their grid, and what stands at them.
-use crate::axes::Axis;
-use crate::axes::x_pixel;
-use crate::axes::y_pixel;
-use crate::marks::number;
 use figures::Place;
 use figures::put;
 use floats::fixed;
 use lines::words::word;
+use marks::number;
+use scales::axes::Axis;
+use scales::axes::x_pixel;
+use scales::axes::y_pixel;
 ghost use mathlib.Core.Path.{_≡_};
 ghost use Rattle.figures.specs.Text.{wrote};
 ghost use Rattle.picture.specs.Frame.{gridText, tickText, ticksText, titleText, axesText, noted, labelsText, frameText};

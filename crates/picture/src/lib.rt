@@ -1,44 +1,21 @@
 // A picture of the readings with each canister's fitted curve, as SVG: 960 by 510, the frame from 70 to 670 and from 50 to 450.
-pub mod axes;
-pub mod escape;
 pub mod frame;
-pub mod legend;
-pub mod marks;
-pub mod ranges;
-pub mod series;
 
-use crate::axes::Axis;
-use crate::axes::axis_of;
-use crate::ranges::Range;
-use crate::ranges::all_curves;
-use crate::ranges::list_range;
-use crate::series::curve;
-use crate::series::readings;
-use curves::mean_fn::eval_mean_with_re;
+use canister::legend::legend;
+use canister::series::curve;
+use canister::series::readings;
 use figures::Place;
 use figures::put;
+use scales::axes::Axis;
+use scales::axes::axis_of;
+use scales::ranges::Range;
+use scales::ranges::all_curves;
+use scales::ranges::list_range;
 ghost use mathlib.Core.Path.{_≡_};
 ghost use lib.ListN.{length};
 ghost use Rattle.figures.specs.Text.{start, wrote};
-ghost use Rattle.picture.specs.Ranges.{curveAt};
-ghost use Rattle.picture.specs.Escape.{each};
+ghost use Rattle.marks.specs.Escape.{each};
 ghost use Rattle.picture.specs.Picture.{canisterText, drawnText, pictureText};
-
-// What the curve of canister g says at a dose.
-pub fn curve_at(code: u64, place: usize, values: &[f64], b: &[f64], g: usize, dose: f64) -> f64
-    ensures { λ r. ⌜ r ≡ curveAt code place (now (values .entry)) (now (b .entry)) g dose ⌝ }
-{
-    let params = [
-        math::at(values, 0),
-        math::at(values, 1),
-        math::at(values, 2),
-        math::at(values, 3),
-    ];
-    let indices = [place];
-    let offsets = [math::at(b, g)];
-    let m = eval_mean_with_re(code, dose, params, &indices, &offsets);
-    m.mu
-}
 
 // Canister g: its curve, its readings and its row of the legend.
 fn canister(
@@ -63,7 +40,7 @@ fn canister(
 {
     let p = curve(out, p, code, place, values, b, g, r, h, v);
     let p = readings(out, p, doses, grams, group, g, h, v);
-    legend::legend(out, p, text, names, g)
+    legend(out, p, text, names, g)
 }
 
 fn canisters(

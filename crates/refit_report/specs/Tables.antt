@@ -12,8 +12,8 @@ use Rattle.math.specs.Loops.{span}
 use Rattle.figures.specs.Text.{bytes}
 use Rattle.lines.specs.Lines.{leftText, cellText, wordOf}
 use Rattle.floats.specs.Floats.{decimalsOf, fixedText, figureText}
-use Rattle.picture.specs.Ranges.{curveAt}
-use Rattle.picture.specs.Escape.{each}
+use Rattle.scales.specs.Ranges.{curveAt}
+use Rattle.marks.specs.Escape.{each}
 
 -- canister g's name stands in the text from names[2g] to names[2g + 1]
 unfoldable pub canisterText : List ℕ → List ℕ → ℕ → List ℕ

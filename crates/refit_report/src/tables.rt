@@ -4,12 +4,12 @@ use figures::put;
 use floats::decimals;
 use lines::columns;
 use lines::words::word;
-use picture::curve_at;
+use scales::curve_at;
 ghost use mathlib.Core.Path.{_≡_};
 ghost use lib.ListN.{length, getD};
 ghost use Rattle.math.specs.Basic.{absOf, maxOf};
 ghost use Rattle.figures.specs.Text.{wrote};
-ghost use Rattle.picture.specs.Escape.{each};
+ghost use Rattle.marks.specs.Escape.{each};
 ghost use Rattle.refit_report.specs.Tables.{canisterText, decimalsFor, largestOf, ownText, canisterRow, canistersText, readingRow, readingAt, readingsText};
 
 // A canister's name stands in the text from names[2g] to names[2g + 1]: at the left of 14 places.

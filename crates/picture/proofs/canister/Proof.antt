@@ -1,5 +1,5 @@
 use Rattle.picture.specs.Picture.{canisterText}
-use Rattle.picture.proofs.Laws.{then}
+use Rattle.marks.proofs.Laws.{then}
 use borrow.Author.Needs.{needs}
 use Rattle.picture.proofs.canister.Statement.{statement}
 use Rattle.picture.proofs.canister.Tie as tie

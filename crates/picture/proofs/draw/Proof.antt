@@ -1,6 +1,6 @@
 use borrow.Author.Tests.{eq-eqb, ne-eqb}
 use Rattle.picture.specs.Picture.{pictureText}
-use Rattle.picture.proofs.Laws.{nothing}
+use Rattle.marks.proofs.Laws.{nothing}
 use borrow.Author.Needs.{needs}
 use Rattle.picture.proofs.draw.Statement.{statement}
 use Rattle.picture.proofs.draw.Tie as tie

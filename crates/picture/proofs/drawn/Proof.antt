@@ -1,5 +1,5 @@
 use Rattle.picture.specs.Picture.{drawnText}
-use Rattle.picture.proofs.Laws.{then}
+use Rattle.marks.proofs.Laws.{then}
 use borrow.Author.Needs.{needs}
 use Rattle.picture.proofs.drawn.Statement.{statement}
 use Rattle.picture.proofs.drawn.Tie as tie

@@ -1,5 +1,5 @@
 use Rattle.picture.specs.Frame.{axesText}
-use Rattle.picture.proofs.Laws.{then}
+use Rattle.marks.proofs.Laws.{then}
 use borrow.Author.Needs.{needs}
 use Rattle.picture.proofs.frame.axes.Statement.{statement}
 use Rattle.picture.proofs.frame.axes.Tie as tie

@@ -1,4 +1,4 @@
-use Rattle.picture.proofs.Laws.{then, nothing}
+use Rattle.marks.proofs.Laws.{then, nothing}
 use borrow.Author.Needs.{needs}
 use Rattle.picture.proofs.frame.labelled.Statement.{statement}
 use Rattle.picture.proofs.frame.labelled.Tie as tie

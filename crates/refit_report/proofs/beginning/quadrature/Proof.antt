@@ -1,6 +1,6 @@
 -- By the order. Assumes nothing.
 use borrow.Author.Tests.{lt-ltb, le-ltb}
-use Rattle.picture.proofs.Laws.{nothing}
+use Rattle.marks.proofs.Laws.{nothing}
 use Rattle.refit_report.specs.Report.{quadratureText}
 use borrow.Author.Needs.{needs}
 use Rattle.refit_report.proofs.beginning.quadrature.Statement.{statement}

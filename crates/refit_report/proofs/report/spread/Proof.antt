@@ -1,7 +1,7 @@
 -- By the code. Assumes nothing.
 use borrow.Author.Tests.{eq-eqb, ne-eqb}
 use Rattle.figures.specs.Laws.{then}
-use Rattle.picture.proofs.Laws.{nothing}
+use Rattle.marks.proofs.Laws.{nothing}
 use Rattle.refit_report.specs.Report.{spreadText}
 use borrow.Author.Needs.{needs}
 use Rattle.refit_report.proofs.report.spread.Statement.{statement}

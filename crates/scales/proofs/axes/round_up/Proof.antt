@@ -1,0 +1,22 @@
+use Rattle.scales.specs.Axes.{roundUp}
+use Rattle.scales.proofs.axes.round_up.Statement.{statement}
+use Rattle.scales.proofs.axes.round_up.Tie as tie
+
+returns : tie.Need-returns
+unfolding roundUp
+returns c = cc
+
+returns-2 : tie.Need-returns-2
+unfolding roundUp
+returns-2 c = cc
+
+returns-3 : tie.Need-returns-3
+unfolding roundUp
+returns-3 c = cc
+
+returns-4 : tie.Need-returns-4
+unfolding roundUp
+returns-4 c = cc
+
+pub round-up-spec : {M : Type 1} → statement M
+round-up-spec = tie.close (tie.spec returns returns-2 returns-3 returns-4)
