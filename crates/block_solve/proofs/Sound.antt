@@ -20,8 +20,9 @@ use Rattle.linalg.specs.declared.elimination.System.{System}
 use Rattle.linalg.specs.declared.elimination.Solution.{Solution}
 use Rattle.linalg.specs.Elimination.{known, backOf, noneOf, stopped, cleared, eliminateFrom, solveOf}
 use Rattle.block_solve.specs.declared.normal.BlockNormal.{BlockNormal}
-use Rattle.block_solve.specs.Direction.{effectsOf, columnsTimes, appendGroup, componentsOf, eliminatedOf, afterSolve, finishedOf, finiteOnly, directionOf, isSome, isDirection, leftIn}
-use Rattle.block_solve.proofs.Laws.{effects-length}
+use Rattle.group_blocks.specs.Components.{effectsOf, columnsTimes, appendGroup, componentsOf}
+use Rattle.block_solve.specs.Direction.{eliminatedOf, afterSolve, finishedOf, finiteOnly, directionOf, isSome, isDirection, leftIn}
+use Rattle.group_blocks.proofs.Laws.{effects-length}
 
 -- ---- what each turn of a loop keeps, the loop keeps
 

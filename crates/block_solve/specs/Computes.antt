@@ -5,7 +5,9 @@ use Rattle.math.specs.Lists.{every}
 use Rattle.math.specs.Loops.{iter}
 use Rattle.linalg.specs.Computes.{linalg-computes}
 use Rattle.block_solve.specs.Normal.{addReading, accumulateOf, timesOf, addPriors, priorOf}
-use Rattle.block_solve.specs.Direction.{dampedBlock, dampedFixed, dotOf, columnsFrom, reduceBy, storeColumns, groupsFrom, eliminatedOf, columnsTimes, effectsOf, componentsOf, finishedOf, directionOf}
+use Rattle.group_blocks.specs.Columns.{dampedBlock, dotOf, columnsFrom, reduceBy, storeColumns}
+use Rattle.group_blocks.specs.Components.{columnsTimes, effectsOf, componentsOf}
+use Rattle.block_solve.specs.Direction.{dampedFixed, groupsFrom, eliminatedOf, finishedOf, directionOf}
 
 unfoldable pub direction-computes : Unit {0}
 unfolding linalg-computes maxOf isFinite Ieee.isNan iter addReading accumulateOf timesOf addPriors priorOf dampedBlock dampedFixed dotOf columnsFrom reduceBy storeColumns groupsFrom eliminatedOf columnsTimes effectsOf componentsOf finishedOf every directionOf

@@ -2,36 +2,27 @@
 use Prim.Native.Nat.{ℕ, _+_, _*_, _-_, _≤_}
 use mathlib.Core.Path.{_≡_, refl}
 use mathlib.Core.Bool.{Bool, true, false, cond, not, _&&_}
-use mathlib.Core.List.{List, [], _∷_, _++_}
+use mathlib.Core.List.{List}
 use mathlib.Core.Option.{Option, none, some}
 use borrow.Author.Tests.{le-leb, eq-eqb}
 use lib.Dec.{eqb, leb}
 use lib.Ieee.{Float, nan}
-use lib.ListN.{getD, set, replicate, take}
-use Rattle.math.specs.Basic.{add, sub, mul, zero, maxOf, isFinite}
+use lib.ListN.{getD, set, replicate}
+use Rattle.math.specs.Basic.{zero, isFinite}
 use Rattle.math.specs.Lists.{every}
 use Rattle.math.specs.Loops.{span, until}
-use Rattle.math.specs.Matrix.{rows}
-use Rattle.math.specs.Rationals.{1e-8}
 use Rattle.linalg.specs.declared.elimination.System.{System}
 use Rattle.linalg.specs.declared.elimination.Solution.{Solution}
 use Rattle.linalg.specs.declared.pair.Solved.{Solved}
 use Rattle.linalg.specs.Elimination.{solveOf}
 use Rattle.linalg.specs.Pair.{pairOf, first, second, isNone}
+use Rattle.group_blocks.specs.declared.Columns.{Columns}
+use Rattle.group_blocks.specs.Columns.{dampedAt, dampedBlock, columnsFrom, reduceBy, storeColumns}
+use Rattle.group_blocks.specs.Components.{componentsOf}
 use Rattle.block_solve.specs.declared.normal.BlockNormal.{BlockNormal}
-use Rattle.block_solve.specs.declared.direction.Columns.{Columns}
 use Rattle.block_solve.specs.declared.direction.Eliminated.{Eliminated}
 
 -- ---- damping
-
--- a diagonal entry x, damped by a share of itself, or of 1e-8 where that is more
-abbrev pub dampedAt : Float → Float → Float
-dampedAt damping x = add x (mul damping (maxOf x 1e-8))
-
-unfoldable pub dampedBlock : List Float → ℕ → Float → List (List Float)
-dampedBlock random g t =
-    rows (dampedAt t (getD random (g * 4) nan)) (getD random (g * 4 + 1) nan) (getD random (g * 4 + 2) nan)
-    (dampedAt t (getD random (g * 4 + 3) nan))
 
 abbrev pub diagonalAt : List Float → Float → ℕ → List Float → List Float
 diagonalAt f t i a = set a (i * 4 + i) (dampedAt t (getD f (i * 4 + i) nan))
@@ -39,54 +30,7 @@ diagonalAt f t i a = set a (i * 4 + i) (dampedAt t (getD f (i * 4 + i) nan))
 unfoldable pub dampedFixed : BlockNormal → ℕ → Float → System
 dampedFixed n p t = record { a = span (diagonalAt (n .fixed) t) 0 p (n .fixed); b = n .«fixed_rhs» }
 
--- ---- one group
-
--- a row of k numbers times a column, from 0 on
-unfoldable pub dotOf : ℕ → Float → Float → Float → Float → Float
-dotOf k a b x y = cond (eqb k 1) (add zero (mul a x)) (add (add zero (mul a x)) (mul b y))
-
--- w: the group's block c solved for each row of its cross block
-module _ (k : ℕ) (c : List (List Float)) (cross : List Float) (g p : ℕ) where
-  abbrev pub columnOf : ℕ → Solved
-  columnOf j = pairOf k c (getD cross (g * 8 + j * 2) nan) (getD cross (g * 8 + j * 2 + 1) nan)
-
-  abbrev pub noColumn : ℕ → List Float → Bool
-  noColumn j w = isNone (columnOf j)
-
-  abbrev pub noColumns : ℕ → List Float → Columns
-  noColumns j w = record { found = false; w = replicate 8 zero }
-
-  abbrev pub stored : ℕ → List Float → List Float
-  stored j w = set (set w (j * 2) (first (columnOf j))) (j * 2 + 1) (second (columnOf j))
-
-  abbrev pub allColumns : List Float → Columns
-  allColumns w = record { found = true; w = w }
-
-  unfoldable pub columnsFrom : ℕ → List Float → Columns
-  columnsFrom j w = until noColumn noColumns stored allColumns (p - j) j w
-
--- the fixed system less cross times w, and its right-hand side less cross times (x, y)
-module _ (k : ℕ) (cross : List Float) (g p : ℕ) (x y : Float) (w : List Float) where
-  abbrev pub crossTimes : ℕ → Float → Float → Float
-  crossTimes i u v = dotOf k (getD cross (g * 8 + i * 2) nan) (getD cross (g * 8 + i * 2 + 1) nan) u v
-
-  abbrev pub reduceAt : ℕ → ℕ → List Float → List Float
-  reduceAt i j a = set a (i * 4 + j) (sub (getD a (i * 4 + j) nan) (crossTimes i (getD w (j * 2) nan) (getD w (j * 2 + 1) nan)))
-
-  abbrev pub reduceRow : ℕ → System → System
-  reduceRow i s = record { a = span (reduceAt i) 0 p (s .a); b = set (s .b) i (sub (getD (s .b) i nan) (crossTimes i x y)) }
-
-  unfoldable pub reduceBy : System → System
-  reduceBy s = span reduceRow 0 p s
-
 -- ---- all groups, in order
-
--- a group's eight places
-abbrev pub storeAt : ℕ → List Float → ℕ → List Float → List Float
-storeAt g x i w = set w (g * 8 + i) (getD x i nan)
-
-unfoldable pub storeColumns : ℕ → List Float → List Float → List Float
-storeColumns g x w = span (storeAt g x) 0 8 w
 
 module _ (random cross rhs : List Float) (p k groups : ℕ) (t : Float) where
   abbrev pub pairAt : ℕ → Solved
@@ -121,25 +65,7 @@ untouched s = record { found = true; s = s; v = replicate 64 zero; w = replicate
 unfoldable pub eliminatedOf : BlockNormal → ℕ → ℕ → ℕ → Float → Eliminated
 eliminatedOf n p k groups t = groupsFrom (n .random) (n .cross) (n .«random_rhs») p k groups t 0 (untouched (dampedFixed n p t))
 
--- ---- the direction as a list: the p fixed values, then each group's effects
-
--- row l of the group's columns times the fixed values, from 0 on
-abbrev pub columnsTimesAt : List Float → List Float → ℕ → ℕ → ℕ → Float → Float
-columnsTimesAt w x g l j t = add t (mul (getD w (g * 8 + j * 2 + l) nan) (getD x j nan))
-
-unfoldable pub columnsTimes : List Float → List Float → ℕ → ℕ → ℕ → Float
-columnsTimes w x g l p = span (columnsTimesAt w x g l) 0 p zero
-
--- one or two effects
-unfoldable pub effectsOf : ℕ → Float → Float → List Float
-effectsOf k x y = cond (eqb k 2) (x ∷ y ∷ []) (x ∷ [])
-
--- a group's effects are v - w x
-abbrev pub appendGroup : ℕ → ℕ → List Float → List Float → List Float → ℕ → List Float → List Float
-appendGroup p k x v w g l = l ++ effectsOf k (sub (getD v (g * 2) nan) (columnsTimes w x g 0 p)) (sub (getD v (g * 2 + 1) nan) (columnsTimes w x g 1 p))
-
-unfoldable pub componentsOf : ℕ → ℕ → ℕ → List Float → List Float → List Float → List Float
-componentsOf p k groups x v w = span (appendGroup p k x v w) 0 groups (take p x)
+-- ---- the direction
 
 abbrev pub afterSolve : ℕ → ℕ → ℕ → Eliminated → Solution → Option (List Float)
 afterSolve p k groups e o = cond (o .found) (some (componentsOf p k groups (o .x) (e .v) (e .w))) none

@@ -1,7 +1,7 @@
 -- What is left of the definition, from the state reached, is the definition from the start; a group without a solution ends both. Assumes nothing.
 use lib.ListN.{replicate}
 use Rattle.math.specs.Basic.{zero}
-use Rattle.block_solve.specs.declared.direction.Columns.{Columns}
+use Rattle.group_blocks.specs.declared.Columns.{Columns}
 use mathlib.Core.Path.{_≡_, refl, sym, ap, _∙_}
 use Prim.Native.Nat.{ℕ, _-_, _+_, _*_, _≤_, _<_}
 use Rattle.math.specs.Loops.{pick-true, pick-false}

@@ -1,11 +1,11 @@
 use mathlib.Core.Path.{_≡_, refl, sym, ap, _∙_}
 use Rattle.math.specs.Loops.{pick-true, pick-false}
 use borrow.Author.Tests.{eq-eqb, ne-eqb}
-use Rattle.block_solve.specs.Direction.{dotOf}
-use Rattle.block_solve.proofs.direction.dot.Statement.{statement}
-use Rattle.block_solve.proofs.direction.dot.Tie as tie
-use Rattle.block_solve.proofs.direction.dot.Reads as reads
-use Rattle.block_solve.proofs.direction.dot.Lts as lts
+use Rattle.group_blocks.specs.Columns.{dotOf}
+use Rattle.group_blocks.proofs.dot.Statement.{statement}
+use Rattle.group_blocks.proofs.dot.Tie as tie
+use Rattle.group_blocks.proofs.dot.Reads as reads
+use Rattle.group_blocks.proofs.dot.Lts as lts
 
 returns : tie.Need-returns
 unfolding dotOf

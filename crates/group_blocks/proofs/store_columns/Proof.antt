@@ -1,11 +1,11 @@
 use mathlib.Core.Path.{_≡_, refl, sym, ap, _∙_}
 use Prim.Native.Nat.{ℕ, _-_, _+_, _*_, _≤_, _<_}
 use Rattle.math.specs.Loops.{span, span-none, span-more, span-all}
-use Rattle.block_solve.specs.Direction.{storeAt, storeColumns}
+use Rattle.group_blocks.specs.Columns.{storeAt, storeColumns}
 use native.Mathlib.Omega.{arith}
 use borrow.Author.Needs.{needs}
-use Rattle.block_solve.proofs.direction.store_columns.Statement.{statement}
-use Rattle.block_solve.proofs.direction.store_columns.Tie as tie
+use Rattle.group_blocks.proofs.store_columns.Statement.{statement}
+use Rattle.group_blocks.proofs.store_columns.Tie as tie
 
 abbrev Inv-loop : tie.InvT-loop
 Inv-loop w₀ g x i₀ w i = (i ≤ 8) × (w ≡ span (storeAt g x) 0 i w₀)

@@ -1,8 +1,8 @@
 use mathlib.Core.Path.{_≡_, refl, sym, ap, _∙_}
-use Rattle.block_solve.specs.Direction.{dampedBlock}
+use Rattle.group_blocks.specs.Columns.{dampedBlock}
 use borrow.Author.Needs.{needs}
-use Rattle.block_solve.proofs.direction.damped_block.Statement.{statement}
-use Rattle.block_solve.proofs.direction.damped_block.Tie as tie
+use Rattle.group_blocks.proofs.damped_block.Statement.{statement}
+use Rattle.group_blocks.proofs.damped_block.Tie as tie
 
 mul-at : tie.Need-mul-at
 mul-at c = search needs

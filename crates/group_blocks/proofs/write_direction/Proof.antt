@@ -9,14 +9,14 @@ use lib.ListN.{length, set, take, length-set}
 use lib.Seq.{take-all}
 use Rattle.math.specs.Loops.{span, span-none, span-more, span-all}
 use Rattle.math.specs.Parts.{group-fits}
-use Rattle.block_solve.specs.Direction.{columnsTimes, appendGroup, componentsOf}
-use Rattle.block_solve.proofs.Laws.{take-next, next-group, effects-put}
-use Rattle.block_solve.proofs.direction.write_direction.Statement.{statement}
-use Rattle.block_solve.proofs.direction.write_direction.Tie as tie
-use Rattle.block_solve.proofs.direction.write_direction.Reads as reads
-use Rattle.block_solve.proofs.direction.write_direction.Lts as lts
-use Rattle.block_solve.proofs.direction.columns_times.Reads as columns-times-reads
-use Rattle.block_solve.proofs.direction.write_effects.Reads as write-effects-reads
+use Rattle.group_blocks.specs.Components.{columnsTimes, appendGroup, componentsOf}
+use Rattle.group_blocks.proofs.Laws.{take-next, next-group, effects-put}
+use Rattle.group_blocks.proofs.write_direction.Statement.{statement}
+use Rattle.group_blocks.proofs.write_direction.Tie as tie
+use Rattle.group_blocks.proofs.write_direction.Reads as reads
+use Rattle.group_blocks.proofs.write_direction.Lts as lts
+use Rattle.group_blocks.proofs.columns_times.Reads as columns-times-reads
+use Rattle.group_blocks.proofs.write_effects.Reads as write-effects-reads
 
 abbrev Inv-loop : tie.InvT-loop
 Inv-loop out₀ p k groups w x v i₀ out i = (i ≤ p) × ((length out ≡ length out₀) × (take i out ≡ take i x))

@@ -1,12 +1,12 @@
 use mathlib.Core.Path.{_≡_, refl, sym, ap, _∙_}
 use Prim.Native.Nat.{ℕ, _-_, _+_, _*_, _≤_, _<_}
 use Rattle.math.specs.Loops.{span, span-none, span-more, span-all}
-use Rattle.block_solve.specs.Direction.{columnsTimesAt, columnsTimes}
+use Rattle.group_blocks.specs.Components.{columnsTimesAt, columnsTimes}
 use native.Mathlib.Omega.{arith}
-use Rattle.block_solve.proofs.direction.columns_times.Statement.{statement}
-use Rattle.block_solve.proofs.direction.columns_times.Tie as tie
-use Rattle.block_solve.proofs.direction.columns_times.Reads as reads
-use Rattle.block_solve.proofs.direction.columns_times.Lts as lts
+use Rattle.group_blocks.proofs.columns_times.Statement.{statement}
+use Rattle.group_blocks.proofs.columns_times.Tie as tie
+use Rattle.group_blocks.proofs.columns_times.Reads as reads
+use Rattle.group_blocks.proofs.columns_times.Lts as lts
 
 abbrev Inv-loop : tie.InvT-loop
 Inv-loop g l p w x t₀ j₀ t j = (j ≤ p) × (t ≡ span (columnsTimesAt w x g l) 0 j t₀)

@@ -8,10 +8,10 @@ use lib.Ieee.{nan}
 use lib.ListN.{length, drop}
 use Rattle.math.specs.Basic.{isFinite}
 use Rattle.math.specs.Lists.{every, every-stop, every-go, every-done}
-use Rattle.block_solve.proofs.direction.all_finite.Statement.{statement}
-use Rattle.block_solve.proofs.direction.all_finite.Tie as tie
-use Rattle.block_solve.proofs.direction.all_finite.Reads as reads
-use Rattle.block_solve.proofs.direction.all_finite.Lts as lts
+use Rattle.group_blocks.proofs.all_finite.Statement.{statement}
+use Rattle.group_blocks.proofs.all_finite.Tie as tie
+use Rattle.group_blocks.proofs.all_finite.Reads as reads
+use Rattle.group_blocks.proofs.all_finite.Lts as lts
 use Rattle.math.proofs.is_finite.Reads as is-finite-reads
 
 abbrev Inv-loop : tie.InvT-loop

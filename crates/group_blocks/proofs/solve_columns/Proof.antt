@@ -2,13 +2,13 @@
 use mathlib.Core.Path.{_≡_, refl, sym, ap, _∙_}
 use Prim.Native.Nat.{ℕ, _-_, _+_, _*_, _≤_, _<_}
 use Rattle.linalg.specs.Pair.{first, second, isNone}
-use Rattle.block_solve.specs.Direction.{columnOf, columnsFrom}
-use Rattle.block_solve.proofs.Laws.{columns-stop, columns-go, columns-done}
+use Rattle.group_blocks.specs.Columns.{columnOf, columnsFrom}
+use Rattle.group_blocks.proofs.Laws.{columns-stop, columns-go, columns-done}
 use mathlib.Core.Bool.{true, false}
 use native.Mathlib.Omega.{arith}
 use borrow.Author.Needs.{needs}
-use Rattle.block_solve.proofs.direction.solve_columns.Statement.{statement}
-use Rattle.block_solve.proofs.direction.solve_columns.Tie as tie
+use Rattle.group_blocks.proofs.solve_columns.Statement.{statement}
+use Rattle.group_blocks.proofs.solve_columns.Tie as tie
 
 abbrev Inv-loop : tie.InvT-loop
 Inv-loop k c cross g p w₀ j₀ w j = (j ≤ p) × (columnsFrom k c cross g p j w ≡ columnsFrom k c cross g p j₀ w₀)

@@ -3,13 +3,13 @@ use borrow.Author.Tests.{eq-eqb, ne-eqb}
 use native.Mathlib.Omega.{arith}
 use lib.ListN.{length, length-set}
 use Rattle.math.specs.Loops.{pick-true, pick-false}
-use Rattle.block_solve.specs.Direction.{effectsOf}
-use Rattle.block_solve.proofs.Laws.{write-one, write-two}
+use Rattle.group_blocks.specs.Components.{effectsOf}
+use Rattle.group_blocks.proofs.Laws.{write-one, write-two}
 use borrow.Author.Needs.{needs}
-use Rattle.block_solve.proofs.direction.write_effects.Statement.{statement}
-use Rattle.block_solve.proofs.direction.write_effects.Tie as tie
-use Rattle.block_solve.proofs.direction.write_effects.Reads as reads
-use Rattle.block_solve.proofs.direction.write_effects.Lts as lts
+use Rattle.group_blocks.proofs.write_effects.Statement.{statement}
+use Rattle.group_blocks.proofs.write_effects.Tie as tie
+use Rattle.group_blocks.proofs.write_effects.Reads as reads
+use Rattle.group_blocks.proofs.write_effects.Lts as lts
 
 slice-write-out : tie.Need-slice-write-out
 slice-write-out c = search needs

@@ -2,11 +2,11 @@
 use mathlib.Core.Path.{_≡_, refl, sym, ap, _∙_}
 use Prim.Native.Nat.{ℕ, _-_, _+_, _*_, _≤_, _<_}
 use Rattle.math.specs.Loops.{span, span-none, span-more, span-all}
-use Rattle.block_solve.specs.Direction.{reduceAt, reduceRow, reduceBy}
+use Rattle.group_blocks.specs.Columns.{reduceAt, reduceRow, reduceBy}
 use native.Mathlib.Omega.{arith}
 use borrow.Author.Needs.{needs}
-use Rattle.block_solve.proofs.direction.reduce.Statement.{statement}
-use Rattle.block_solve.proofs.direction.reduce.Tie as tie
+use Rattle.group_blocks.proofs.reduce.Statement.{statement}
+use Rattle.group_blocks.proofs.reduce.Tie as tie
 
 abbrev Inv-loop2 : tie.InvT-loop2
 Inv-loop2 k cross g p x y w z₀ i at a b j₀ z j = (j ≤ p) × ((z .a ≡ span (reduceAt k cross g p x y w i) 0 j (z₀ .a)) × (z .b ≡ z₀ .b))
