@@ -1,3 +1,1 @@
-pub mod Tables
-pub mod Report
 pub mod Run

@@ -13,7 +13,7 @@ use Rattle.picture.specs.Picture.{pictureText}
 use Rattle.refit_calculation.specs.Refit.{Refitted, refitOf}
 use Rattle.refit_options.specs.declared.options.Options.{Options}
 use Rattle.refit_report.specs.declared.Outcome.{Outcome}
-use Rattle.refit_report.specs.Report.{reportText}
+use Rattle.report.specs.Report.{reportText}
 
 -- what is answered, and the two lent buffers as they are left
 pub record Ran : Type 0 where

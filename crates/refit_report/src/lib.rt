@@ -1,15 +1,11 @@
 // The refit of readings, and what a person is told of it. No file is read or written here: `run` takes the readings, the
 // text that they were read from, which has the canisters' names, and the options, and writes the report, and the picture if
 // one is asked for, into lent buffers.
-pub mod beginning;
-pub mod report;
-pub mod tables;
-
-use crate::report::report;
 use curves::mean_fn::n_params;
 use figures::Place;
 use refit_calculation::refit;
 use refit_options::options::Options;
+use report::report;
 ghost use mathlib.Core.Path.{_≡_};
 ghost use Prim.Native.Nat.{_≤_};
 ghost use lib.ListN.{length};
