@@ -23,7 +23,7 @@ def main():
         "crates/refit_options/src/help.rt",
         "crates/refit_options/src/options.rt",
         "crates/picture/src/lib.rt",
-        "crates/figures/src/floats.rt",
+        "crates/floats/src/lib.rt",
     ]
     code = plain(" ".join((root / path).read_text(encoding="utf-8") for path in sources))
     shown = [part for block in re.findall(r"(?:^    .*\n)+", text, flags=re.M) for part in re.split(r"kemroul_\w+: ", plain(block)) if part]
