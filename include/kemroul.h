@@ -26,9 +26,9 @@
  * exceptions masked. Calls raise its sticky flags and leave its control alone.
  *
  * Stack, in bytes, the return address with it, without the arguments that the caller passes there: a bound over all
- * paths of the machine code; on the largest inputs as much was measured, for kemroul_start 152 less
+ * paths of the machine code; on the largest inputs as much was measured, for kemroul_start 168 less
  * (2026-11-16, x86-64, kit logic 097e4c862dff5811, gcc 12.2 and glibc 2.36 around it; `make stack` repeats both):
- *   kemroul_search 60,296    kemroul_criterion 59,384    kemroul_fit 41,128    kemroul_start 25,968
+ *   kemroul_search 60,296    kemroul_criterion 59,384    kemroul_fit 41,128    kemroul_start 26,064
  *   kemroul_curve 216    kemroul_sqrt 40    kemroul_exp 8    kemroul_ln 8    kemroul_gh_order 8
  * So 64 KiB are enough for any of them.
  *
