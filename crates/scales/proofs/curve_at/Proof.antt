@@ -1,3 +1,4 @@
+use mathlib.Core.Path.{refl}
 use Rattle.scales.specs.Ranges.{curveAt}
 use borrow.Author.Needs.{needs}
 use Rattle.scales.proofs.curve_at.Statement.{statement}
@@ -29,7 +30,12 @@ eval-mean-with-re-requires c κs = search needs
 
 returns : tie.Need-returns
 unfolding curveAt
-returns c = cc
+returns c =
+    let c5 = c .before .before .before in
+    let c4 = c5 .before in
+    let c3 = c4 .before in
+    let c2 = c3 .before in
+    rw (c .eval-mean-with-re .ensures, c5 .at5 .ensures, c4 .at4 .ensures, c3 .at3 .ensures, c2 .at2 .ensures, c2 .before .at .ensures) refl
 
 pub curve-at-spec : {M : Type 1} → statement M
 curve-at-spec =
