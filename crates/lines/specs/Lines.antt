@@ -1,8 +1,8 @@
 -- Text in columns, a word of a table, and a line with numbers in it. Definitions only.
-use Prim.Native.Nat.{ℕ, zero, suc, _-_}
-use mathlib.Core.Bool.{Bool, true, false, cond}
+use Prim.Native.Nat.{ℕ, zero, suc, _+_, _-_}
+use mathlib.Core.Bool.{Bool, true, false, _&&_, cond}
 use mathlib.Core.List.{List, [], _∷_, _++_}
-use lib.Dec.{eqb}
+use lib.Dec.{eqb, ltb}
 use lib.Ieee.{Float}
 use lib.ListN.{length, take, drop, replicate}
 use Rattle.figures.specs.Text.{bytes, wholeText}
@@ -33,6 +33,28 @@ unfoldable pub wordOf : ℕ → List ℕ → List ℕ
 wordOf k [] = []
 wordOf zero (b ∷ t) = let rest = wordOf zero t in cond (eqb b 10) [] (b ∷ rest)
 wordOf (suc k) (b ∷ t) = wordOf (suc k - same b 10) t
+
+-- ---- the number of the first word of a table that is a given one, capitals and small letters alike; 0 where none is
+
+-- a capital as its small letter
+unfoldable pub smallOf : ℕ → ℕ
+smallOf b = cond (ltb b 65) b (cond (ltb 90 b) b (b + 32))
+
+-- whether a word begins with a byte
+unfoldable pub begins : ℕ → List ℕ → Bool
+begins b [] = false
+begins b (c ∷ w) = eqb (smallOf c) (smallOf b)
+
+-- n is the number of the table's word, `same` whether it agreed so far, and rest what is left of the word sought
+unfoldable pub numberFrom : ℕ → Bool → List ℕ → List ℕ → List ℕ → ℕ
+numberFrom n same rest [] word = 0
+numberFrom n same rest (b ∷ t) word =
+    let on = numberFrom n (same && begins b rest) (drop 1 rest) t word in
+    let again = numberFrom (n + 1) true word t word in
+    cond (eqb b 10) (cond (same && eqb (length rest) 0) n again) on
+
+abbrev pub numberOf : List ℕ → List ℕ → ℕ
+numberOf table word = numberFrom 0 true word table word
 
 -- ---- a template: `%n` is the next whole number, `%g` the next float to seven digits, `%1` the next float with one decimal,
 -- `?` where none is left; any other byte after `%`, and every other byte, stands for itself
