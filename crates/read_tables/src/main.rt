@@ -22,9 +22,12 @@ fn shown(text: &[u8]) {
 
 fn good() {
     shown(b"1 2 a\n2 3 b\n3,4,a\n");
-    shown(b"dose;grams;canister\n1;2;a\r\n\n# note\n2 ; 3 ; a # last");
+    shown(b"dose;grams;canister\n1;2;a\r\n\n  # note\n2 ; 3 ; a");
     shown(b"\"dose\"\t\"grams\"\t\"can\"\n1.5\t\"2.5\"\t\"red-1\"\n");
     shown(b"1 2 a\n1 2 b\n1 2 a\n1 2 b");
+    // A byte order mark, and names that are no known words or stand in their columns.
+    shown(b"\xef\xbb\xbfAGE,\"Height (m)\",whatever\n1,2,a\n");
+    shown(b"\xef\xbb\xbf1 2 a\n");
 }
 
 fn bad() {
@@ -44,7 +47,39 @@ fn bad() {
     shown(b"1 2 a,\n");
 }
 
+// A `#` that begins no line: in a name, in quotes, and behind a reading.
+fn hashes() {
+    shown(b"1,2,blue#1\n1,2,blue#2\n");
+    shown(b"1,2,\"blue#1\"\n");
+    shown(b"1 2 a\n1 2 a # last\n");
+}
+
+// Decimal commas, and lines that have none.
+fn commas() {
+    shown(b"1,5;2,5;a\n");
+    shown(b"118;30,5\n");
+    shown(b"1,5\t2\ta\n");
+    shown(b"1,5 2,5 a\n");
+    shown(b"\"1,5\";2;a\n");
+    shown(b"1;\"2,5\";a\n");
+    shown(b"1 , 2 , a\n");
+    shown(b"1,2\n");
+    shown(b"1,5,2,5,a\n");
+}
+
+// Headers whose names are known words in another order.
+fn headers() {
+    shown(b"\"density\",\"conc\",\"Run\"\n1,2,a\n");
+    shown(b"tree,circumference,x\n1,2,a\n");
+    shown(b"a,b,grams\n1,2,a\n");
+    shown(b"# note\n\ngrams dose canister\n");
+    shown(b"dosage,gram,can\n1,2,a\n");
+}
+
 fn main() {
     good();
     bad();
+    hashes();
+    commas();
+    headers();
 }

@@ -1,20 +1,15 @@
 -- Runs of bytes, the search for a name, and values put into lists. Assumes nothing.
 use Prim.Native.Nat.{ℕ, suc, _+_, _-_, _*_, _<_, _≤_}
 use mathlib.Core.Path.{_≡_, refl, sym}
-use mathlib.Core.Bool.{Bool, true, false, _&&_}
+use mathlib.Core.Bool.{Bool, true, false}
 use mathlib.Core.List.{List}
 use native.Mathlib.Numerals.{add-one}
 use native.Mathlib.Omega.{arith}
-use borrow.Author.Tests.{ltb-true}
 use lib.ListN.{length, drop, getD, set, drop-of-length-le}
 use lib.Seq.{drop-cons, set-out}
 use Rattle.math.specs.Loops.{until-stop, until-go, until-done}
-use Rattle.readings.specs.Classes.{stopsAt, meets, count}
+use Rattle.readings.specs.Classes.{stopsAt, count}
 use Rattle.readings.specs.Table.{sameName, findFrom, findOf, putAt}
-
-and-first : (a b : Bool) → (a && b) ≡ true → a ≡ true
-and-first true b h = refl
-and-first false b h = h
 
 module _ (k : ℕ) (text : List ℕ) (at : ℕ) where
   pub count-stop : at < length text → stopsAt k (getD text at 0) ≡ true → count k (drop at text) ≡ 0
@@ -28,10 +23,6 @@ module _ (k : ℕ) (text : List ℕ) (at : ℕ) where
   pub count-none : length text ≤ at → count k (drop at text) ≡ 0
   unfolding count
   count-none p = rw (drop-of-length-le text p)
-
-  pub meets-within : meets k text at ≡ true → at < length text
-  unfolding meets
-  meets-within h = ltb-true at (length text) (and-first _ _ h)
 
 pub find-starts : (text names : List ℕ) (n start stop : ℕ) → findFrom text names n start stop (n - 0) 0 ≡ findOf text names n start stop
 find-starts text names n start stop = let e : n - 0 ≡ n = omega arith in rw e

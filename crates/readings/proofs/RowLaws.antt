@@ -1,16 +1,27 @@
--- A field and a line, put together from their places as the definition does it. Assumes nothing.
-use Prim.Native.Nat.{ℕ, _+_, _-_, _<_, _≤_}
+-- A header's column, a field and a line, put together from their places as the definition does it. Assumes nothing.
+use Prim.Native.Nat.{ℕ, _+_, _-_, _/_, _<_, _≤_}
 use mathlib.Core.Path.{_≡_, refl}
-use mathlib.Core.Bool.{Bool, true, false, _&&_}
+use mathlib.Core.Bool.{Bool, true, false, _&&_, _||_}
 use mathlib.Core.List.{List}
 use borrow.Author.Tests.{lt-ltb, le-ltb}
 use lib.Dec.{ltb, eqb}
 use lib.ListN.{length, take, drop}
-use Rattle.readings.specs.Classes.{spaces, aWord, toQuote, toSeparator, toLetter, meets, scanOf}
-use Rattle.readings.specs.Row.{closingOf, wordOf, afterOf, nextOf, fieldOf, numberOf, namedOf, faultOf, rowOf}
+use Rattle.lines.specs.Lines as Lines
+use Rattle.readings.specs.Classes.{spaces, aWord, toQuote, toComment, toSeparator, toLetter, inLetters, meets, scanOf}
+use Rattle.readings.specs.Header.{columnWords, columnOf, inOrder}
+use Rattle.readings.specs.Row.{closingOf, wordOf, afterOf, nextOf, fieldOf, numberOf, namedOf, decimalComma, faultOf, rowOf}
 use Rattle.readings.specs.declared.row.Word.{Word}
 use Rattle.readings.specs.declared.row.Field.{Field}
 use Rattle.readings.specs.declared.row.Number.{Number}
+
+module _ (line : List ℕ) (start end n : ℕ) (e : end ≡ scanOf inLetters line start) (w : n ≡ Lines.numberOf columnWords (take (end - start) (drop start line))) where
+  pub column-none : 15 < n → 0 ≡ columnOf line start
+  unfolding columnOf
+  column-none h = rw (← e, ← w, lt-ltb 15 n h)
+
+  pub column-known : n ≤ 15 → (n + 4) / 5 ≡ columnOf line start
+  unfolding columnOf
+  column-known h = rw (← e, ← w, le-ltb 15 n h)
 
 module _ (line : List ℕ) (at : ℕ) where
   -- past the end nothing is met
@@ -46,11 +57,12 @@ module _ (line : List ℕ) (at : ℕ) where
   unfolding fieldOf afterOf
   field-is w after next e a n = rw (n, a, e)
 
-  pub row-is : (first fault : ℕ) (d g c : Field) (dose grams : Number) (l m letters three name : Bool)
+  pub row-is : (first fault : ℕ) (d g c : Field) (dose grams : Number) (l m letters ordered comma three name blank : Bool)
       → first ≡ scanOf spaces line at → d ≡ fieldOf line first → g ≡ fieldOf line (d .next) → c ≡ fieldOf line (g .next)
       → dose ≡ numberOf (take (d .stop - d .start) (drop (d .start) line)) → grams ≡ numberOf (take (g .stop - g .start) (drop (g .start) line))
-      → l ≡ meets toLetter line (d .start) → m ≡ meets toLetter line (g .start) → letters ≡ (l && m)
-      → three ≡ (ltb (g .next) (length line) && eqb (c .after) (length line)) → name ≡ namedOf line (c .start) (c .stop) → fault ≡ faultOf three (dose .fault) (grams .fault) name
-      → record { blank = eqb first (length line); letters = letters; fault = fault; dose = dose .value; grams = grams .value; start = c .start; stop = c .stop } ≡ rowOf line at
+      → l ≡ meets toLetter line (d .start) → m ≡ meets toLetter line (g .start) → letters ≡ (l && m) → ordered ≡ inOrder line (d .start) (g .start) (c .start)
+      → comma ≡ decimalComma line d g → three ≡ (ltb (g .next) (length line) && eqb (c .after) (length line)) → name ≡ namedOf line (c .start) (c .stop)
+      → fault ≡ faultOf comma three (dose .fault) (grams .fault) name → blank ≡ (eqb first (length line) || meets toComment line first)
+      → record { blank = blank; letters = letters; ordered = ordered; fault = fault; dose = dose .value; grams = grams .value; start = c .start; stop = c .stop } ≡ rowOf line at
   unfolding rowOf
-  row-is first fault d g c dose grams l m letters three name e1 e2 e3 e4 e5 e6 e7 e8 e9 e10 e11 e12 = rw (e12, e11, e10, e9, e8, e7, e6, e5, e4, e3, e2, e1)
+  row-is first fault d g c dose grams l m letters ordered comma three name blank e1 e2 e3 e4 e5 e6 e7 e8 e9 e10 e11 e12 e13 e14 e15 = rw (e15, e14, e13, e12, e11, e10, e9, e8, e7, e6, e5, e4, e3, e2, e1)

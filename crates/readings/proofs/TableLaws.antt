@@ -2,15 +2,16 @@
 use Prim.Native.Nat.{ℕ, zero, suc, _+_, _-_, _*_, _<_, _≤_}
 use mathlib.Core.Path.{_≡_, refl, ap, _∙_}
 use mathlib.Core.Bool.{Bool, true, false, not, _&&_, cond}
-use mathlib.Core.List.{List}
+use mathlib.Core.List.{List, [], _∷_}
 use native.Mathlib.Omega.{arith}
 use borrow.Author.Tests.{lt-ltb, le-ltb, le-leb, lt-leb, eq-eqb, ne-eqb, ltb-true}
 use lib.Dec.{ltb, leb, eqb}
-use lib.ListN.{length, take}
+use lib.ListN.{length, take, length-take}
 use lib.Ieee.{Float}
-use Rattle.readings.specs.Classes.{toNewline, toComment, scanOf}
+use Rattle.math.specs.Lists.{sameBytes, same-bytes}
+use Rattle.readings.specs.Classes.{toNewline, scanOf}
 use Rattle.readings.specs.Row.{rowOf}
-use Rattle.readings.specs.Table.{State, findOf, stillOf, markedOf, takenOf, enteredOf, settledOf, pastOf, moveOf, state, roomOf, putAt, stepOf, runs, linesOf, lastFault, finishOf}
+use Rattle.readings.specs.Table.{State, findOf, stillOf, markedOf, takenOf, enteredOf, settledOf, pastOf, moveOf, state, roomOf, putAt, stepOf, runs, linesOf, afterMark, lastFault, finishOf}
 use Rattle.readings.specs.declared.row.Row.{Row}
 use Rattle.readings.specs.declared.step.Progress.{Progress}
 use Rattle.readings.specs.declared.step.Move.{Move}
@@ -35,9 +36,9 @@ module _ (text : List ℕ) (q : Progress) (row : Row) (names : List ℕ) where
     settled-blank h = rw h
 
     module _ (b : row .blank ≡ false) where
-      pub settled-header : (row .letters && not (q .started)) ≡ true → markedOf q 0 ≡ settledOf text q row room names
+      pub settled-header : (f : ℕ) → (row .letters && not (q .started)) ≡ true → f ≡ cond (row .ordered) 0 11 → markedOf q f ≡ settledOf text q row room names
       unfolding settledOf
-      settled-header h = rw (b, h)
+      settled-header f h e = rw (b, h, e)
 
       module _ (h : (row .letters && not (q .started)) ≡ false) where
         pub settled-fault : (row .fault ≡ 0 → ⊥) → markedOf q (row .fault) ≡ settledOf text q row room names
@@ -52,11 +53,11 @@ module _ (text : List ℕ) (q : Progress) (row : Row) (names : List ℕ) where
         unfolding settledOf
         settled-full f p = rw (b, h, eq-eqb (row .fault) 0 f, le-ltb (q .count) room p)
 
-pub moved-is : (text : List ℕ) (p : Progress) (room : ℕ) (names : List ℕ) (end last : ℕ) (row : Row)
-    → end ≡ scanOf toComment text (p .at) → last ≡ scanOf toNewline text end → row ≡ rowOf (take end text) (p .at)
-    → settledOf text (record { at = last + 1; line = p .line + 1; count = p .count; canisters = p .canisters; started = p .started; fault = 0 }) row room names ≡ moveOf text p room names
+pub moved-is : (text : List ℕ) (p : Progress) (room : ℕ) (names : List ℕ) (end : ℕ) (row : Row)
+    → end ≡ scanOf toNewline text (p .at) → row ≡ rowOf (take end text) (p .at)
+    → settledOf text (record { at = end + 1; line = p .line + 1; count = p .count; canisters = p .canisters; started = p .started; fault = 0 }) row room names ≡ moveOf text p room names
 unfolding moveOf pastOf
-moved-is text p room names end last row e l r = rw (r, l, e)
+moved-is text p room names end row e r = rw (r, e)
 
 -- what none of three lists is too short for, the room is not
 pub room-holds : (n a b c r : ℕ) → r ≡ roomOf a b c → n ≤ a → n ≤ b → n ≤ c → n ≤ r
@@ -133,6 +134,15 @@ lines-stop text zero s h = refl
 lines-stop text (suc n) s h =
     let l : ltb 0 (suc n) ≡ true = lt-ltb 0 (suc n) (omega arith) in
     rw (rw l at h)
+
+-- the mark is what the first three bytes are compared with; fewer than three are not it
+module _ (text : List ℕ) where
+  pub mark-is : (r : Bool) → r ≡ sameBytes (take 3 text) (239 ∷ 187 ∷ 191 ∷ []) → cond r 3 0 ≡ afterMark text
+  unfolding afterMark
+  mark-is r e = rw e
+
+  pub no-mark : length text < 3 → 0 ≡ afterMark text
+  no-mark h = mark-is false (same-bytes false _ _ (λ e. cc, λ e. absurd (omega (arith, ap length e, length-take 3 text))))
 
 pub state-step : (text : List ℕ) (s : State) (p : Progress) (d g : List Float) (r n : List ℕ)
     → p ≡ stepOf text s .progress → d ≡ stepOf text s .doses → g ≡ stepOf text s .grams → r ≡ stepOf text s .groups → n ≡ stepOf text s .names

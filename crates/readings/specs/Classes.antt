@@ -47,16 +47,24 @@ toLetter = 6
 abbrev pub aName : ℕ
 aName = 7
 
--- whether a byte ends a run: `"` is 34, a newline 10, `#` 35
+abbrev pub inLetters : ℕ
+inLetters = 8
+
+abbrev pub toComma : ℕ
+toComma = 9
+
+-- whether a byte ends a run: `"` is 34, a newline 10, `#` 35, a comma 44
 unfoldable pub stopsAt : ℕ → ℕ → Bool
 stopsAt k b =
     cond (eqb k spaces) (not (isSpace b))
     (cond (eqb k aWord) (isSpace b || isSeparator b)
     (cond (eqb k toQuote) (eqb b 34)
     (cond (eqb k toNewline) (eqb b 10)
-    (cond (eqb k toComment) (eqb b 10 || eqb b 35)
+    (cond (eqb k toComment) (eqb b 35)
     (cond (eqb k toSeparator) (isSeparator b)
-    (cond (eqb k toLetter) (isLetter b) (not (isNameByte b))))))))
+    (cond (eqb k toLetter) (isLetter b)
+    (cond (eqb k aName) (not (isNameByte b))
+    (cond (eqb k inLetters) (not (isLetter b)) (eqb b 44)))))))))
 
 -- whether such a byte stands at a place
 unfoldable pub meets : ℕ → List ℕ → ℕ → Bool

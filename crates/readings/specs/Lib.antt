@@ -1,3 +1,4 @@
 pub mod Classes
+pub mod Header
 pub mod Row
 pub mod Table

@@ -1,8 +1,9 @@
--- A table of readings, line by line. Lines end with a newline; `#` begins a comment that runs to the line's end, in quotes too; blank lines are skipped. The first line that is not blank may be a header.
+-- A table of readings, line by line. Lines end with a newline; a line that is blank, or whose first sign is `#`, is skipped. The first other line may be a header. A byte order mark before
+-- the first line is passed over.
 -- The definition says what the lists hold in every case: on a fault they hold what was entered before it, and nothing further is written. Definitions only.
 use Prim.Native.Nat.{ℕ, zero, suc, _+_, _-_, _*_}
 use mathlib.Core.Bool.{Bool, true, false, not, _&&_, cond}
-use mathlib.Core.List.{List}
+use mathlib.Core.List.{List, [], _∷_}
 use lib.Dec.{ltb, leb, eqb}
 use lib.ListN.{length, take, getD, set}
 use lib.Ieee.{Float}
@@ -10,7 +11,7 @@ use Rattle.math.specs.Basic as Basic
 use Rattle.math.specs.Loops.{until}
 use Rattle.math.specs.Lists.{sameBytes}
 use Rattle.math.specs.Parts.{part}
-use Rattle.readings.specs.Classes.{toNewline, toComment, scanOf}
+use Rattle.readings.specs.Classes.{toNewline, scanOf}
 use Rattle.readings.specs.Row.{rowOf}
 use Rattle.readings.specs.declared.row.Row.{Row}
 use Rattle.readings.specs.declared.step.Progress.{Progress}
@@ -66,18 +67,18 @@ enteredOf text q row names =
     (takenOf q row (findOf text names (q .canisters) (row .start) (row .stop)) (q .canisters) false)
     (cond (leb (2 * q .canisters + 2) (length names)) (takenOf q row (q .canisters) (q .canisters + 1) true) (markedOf q 8))
 
--- a header is skipped where no line before it was more than blank; 7: there is no room for a reading
+-- a header is skipped where no line before it was more than blank, and 11 where it names the columns in another order; 7: there is no room for a reading
 unfoldable pub settledOf : List ℕ → Progress → Row → ℕ → List ℕ → Move
 settledOf text q row room names =
     cond (row .blank) (stillOf q)
-    (cond (row .letters && not (q .started)) (markedOf q 0)
+    (cond (row .letters && not (q .started)) (markedOf q (cond (row .ordered) 0 11))
     (cond (eqb (row .fault) 0) (cond (ltb (q .count) room) (enteredOf text q row names) (markedOf q 7)) (markedOf q (row .fault))))
 
--- the line from p's place to a comment or a newline; the next begins after the newline
+-- the line from p's place to a newline; the next begins after it
 unfoldable pub pastOf : List ℕ → Progress → Progress
 pastOf text p =
     record {
-      at = scanOf toNewline text (scanOf toComment text (p .at)) + 1;
+      at = scanOf toNewline text (p .at) + 1;
       line = p .line + 1;
       count = p .count;
       canisters = p .canisters;
@@ -86,7 +87,7 @@ pastOf text p =
     }
 
 unfoldable pub moveOf : List ℕ → Progress → ℕ → List ℕ → Move
-moveOf text p room names = settledOf text (pastOf text p) (rowOf (take (scanOf toComment text (p .at)) text) (p .at)) room names
+moveOf text p room names = settledOf text (pastOf text p) (rowOf (take (scanOf toNewline text (p .at)) text) (p .at)) room names
 
 -- ---- the table
 
@@ -133,11 +134,15 @@ unfoldable pub linesOf : ℕ → List ℕ → State → State
 linesOf zero text s = s
 linesOf (suc n) text s = let r = linesOf n text (stepOf text s) in cond (runs (length text) (s .progress)) r s
 
-abbrev pub startOf : Progress
-startOf = record { at = 0; line = 0; count = 0; canisters = 0; started = false; fault = 0 }
+-- the place after a byte order mark, EF BB BF
+unfoldable pub afterMark : List ℕ → ℕ
+afterMark text = cond (sameBytes (take 3 text) (239 ∷ 187 ∷ 191 ∷ [])) 3 0
+
+abbrev pub startOf : List ℕ → Progress
+startOf text = record { at = afterMark text; line = 0; count = 0; canisters = 0; started = false; fault = 0 }
 
 unfoldable pub tableOf : List ℕ → List Float → List Float → List ℕ → List ℕ → State
-tableOf text doses grams groups names = linesOf (length text) text (state startOf doses grams groups names)
+tableOf text doses grams groups names = linesOf (length text) text (state (startOf text) doses grams groups names)
 
 -- 9: no readings at all. `line` is the number of lines read: of a fault in a line that line, of 9 the number of lines
 unfoldable pub lastFault : ℕ → ℕ → ℕ

@@ -73,7 +73,7 @@ pub fn is_name_byte(b: u8) -> bool
 }
 
 // Whether a byte ends a run of the kind k: 0 spaces, 1 a word, 2 up to a quote, 3 up to a newline,
-// 4 up to a comment or a newline, 5 up to a separator, 6 up to a letter, 7 a name.
+// 4 up to a `#`, 5 up to a separator, 6 up to a letter, 7 a name, 8 letters, 9 up to a comma.
 fn stops(k: u64, b: u8) -> bool
     ensures { λ r. ⌜ r ≡ stopsAt k b ⌝ }
 {
@@ -93,10 +93,7 @@ fn stops(k: u64, b: u8) -> bool
         return b == 10;
     }
     if k == 4 {
-        if b == 10 {
-            return true;
-        }
-        return b == 35;
+        return b == b'#';
     }
     if k == 5 {
         return is_separator(b);
@@ -104,7 +101,13 @@ fn stops(k: u64, b: u8) -> bool
     if k == 6 {
         return is_letter(b);
     }
-    !is_name_byte(b)
+    if k == 7 {
+        return !is_name_byte(b);
+    }
+    if k == 8 {
+        return !is_letter(b);
+    }
+    b == b','
 }
 
 // Whether the byte at `at` is one that ends such a run; past the end there is none.

@@ -1,17 +1,19 @@
 // Reads a table of readings: a line for each, with dose, grams and canister.
 pub mod classes;
 pub mod enter;
+pub mod header;
 pub mod row;
 pub mod step;
 
 use crate::step::Progress;
 use crate::step::next_line;
+use check::same;
 ghost use mathlib.Core.Path.{_≡_};
 ghost use mathlib.Core.Bool.{false, _&&_};
 ghost use Prim.Native.Nat.{_≤_, _*_};
 ghost use lib.Dec.{ltb, eqb};
 ghost use lib.ListN.{length};
-ghost use Rattle.readings.specs.Table.{tableOf, finishOf, lastFault, runs};
+ghost use Rattle.readings.specs.Table.{afterMark, tableOf, finishOf, lastFault, runs};
 
 // fault 0, or its number; the number of lines read, which is the line of a fault; the readings
 // entered; the canisters seen.
@@ -47,6 +49,20 @@ fn last_fault(fault: u64, count: usize) -> u64
     0
 }
 
+// The place after a byte order mark, which some programs put before the first line.
+fn after_mark(text: &[u8]) -> usize
+    ensures { λ r. ⌜ r ≡ afterMark (now (text .entry)) ⌝ }
+{
+    if text.len() < 3 {
+        return 0;
+    }
+    if same(&text[..3], &[0xef, 0xbb, 0xbf]) {
+        3
+    } else {
+        0
+    }
+}
+
 // The readings of `text`, entered at the front of the lists, which say how many are taken; the name
 // of canister g is text[names[2g]..names[2g + 1]].
 pub fn read_table(
@@ -64,7 +80,7 @@ pub fn read_table(
     ensures { λ r. ⌜ (r .count ≤ length (now (doses .entry))) × (r .count ≤ length (now (grams .entry))) × (r .count ≤ length (now (groups .entry))) × (2 * r .canisters ≤ length (now (names .entry))) ⌝ }
 {
     let mut p = Progress {
-        at: 0,
+        at: after_mark(text),
         line: 0,
         count: 0,
         canisters: 0,

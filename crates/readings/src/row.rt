@@ -1,14 +1,16 @@
 // One line: its three fields, and what they say.
 use crate::classes::met;
 use crate::classes::scan;
+use crate::header::in_order;
 use decimal::Decimal;
 use decimal::read_decimal;
 ghost use mathlib.Core.Path.{_≡_};
-ghost use mathlib.Core.Bool.{_&&_};
+ghost use mathlib.Core.Bool.{_&&_, _||_};
 ghost use Prim.Native.Nat.{_≤_, _<_, _+_};
 ghost use lib.Dec.{ltb, eqb};
 ghost use lib.ListN.{length};
-ghost use Rattle.readings.specs.Row.{closingOf, wordOf, nextOf, fieldOf, numberOf, namedOf, toldOf, faultOf, rowOf};
+ghost use Rattle.readings.specs.Classes.{toComment, meets};
+ghost use Rattle.readings.specs.Row.{closingOf, wordOf, nextOf, fieldOf, numberOf, namedOf, commaIn, decimalComma, toldOf, faultOf, rowOf};
 
 // A field's bytes from start to stop, and the place after it and its quotes.
 pub struct Word {
@@ -31,10 +33,12 @@ pub struct Number {
     pub value: f64,
 }
 
-// What a line says; its canister's name stands from start to stop.
+// What a line says; its canister's name stands from start to stop. `ordered`: as a header, it names no column in
+// another's place.
 pub struct Row {
     pub blank: bool,
     pub letters: bool,
+    pub ordered: bool,
     pub fault: u64,
     pub dose: f64,
     pub grams: f64,
@@ -154,9 +158,50 @@ fn told(k: u64, fault: u64) -> u64
     5
 }
 
-fn row_fault(three: bool, dose: u64, grams: u64, name: bool) -> u64
-    ensures { λ r. ⌜ r ≡ faultOf three dose grams name ⌝ }
+// Whether a field's bytes hold a comma.
+fn comma_in(line: &[u8], start: usize, stop: usize) -> bool
+    requires { ⌜ start ≤ length (now line) ⌝ }
+    ensures { λ r. ⌜ r ≡ commaIn (now (line .entry)) start stop ⌝ }
 {
+    scan(line, start, 9) < stop
+}
+
+// Whether a comma stands inside a number, or separates on one side of the grams and not on the other.
+fn decimal_comma(line: &[u8], d: Field, g: Field) -> bool
+    requires { ⌜ (d .start ≤ length (now line)) × (g .start ≤ length (now line)) ⌝ }
+    ensures { λ r. ⌜ r ≡ decimalComma (now (line .entry)) d g ⌝ }
+{
+    if comma_in(line, d.start, d.stop) {
+        return true;
+    }
+    if comma_in(line, g.start, g.stop) {
+        return true;
+    }
+    if g.next < line.len() {
+        if met(line, d.after, 9) {
+            return !met(line, g.after, 9);
+        }
+        return met(line, g.after, 9);
+    }
+    false
+}
+
+// Whether nothing stands at a place, or a comment.
+fn blank(line: &[u8], at: usize) -> bool
+    ensures { λ r. ⌜ r ≡ (eqb at (length (now (line .entry))) || meets toComment (now (line .entry)) at) ⌝ }
+{
+    if at == line.len() {
+        return true;
+    }
+    met(line, at, 4)
+}
+
+fn row_fault(comma: bool, three: bool, dose: u64, grams: u64, name: bool) -> u64
+    ensures { λ r. ⌜ r ≡ faultOf comma three dose grams name ⌝ }
+{
+    if comma {
+        return 10;
+    }
     if three {
         if dose != 0 {
             return told(2, dose);
@@ -189,12 +234,15 @@ pub fn read_row(line: &[u8], at: usize) -> Row
     let ge = g.stop;
     let grams = read_number(&line[gs..ge]);
     let letters = both(met(line, ds, 6), met(line, gs, 6));
+    let ordered = in_order(line, ds, gs, c.start);
+    let comma = decimal_comma(line, d, g);
     let three = both(g.next < line.len(), c.after == line.len());
     let name = named(line, c.start, c.stop);
-    let fault = row_fault(three, dose.fault, grams.fault, name);
+    let fault = row_fault(comma, three, dose.fault, grams.fault, name);
     Row {
-        blank: first == line.len(),
+        blank: blank(line, first),
         letters,
+        ordered,
         fault,
         dose: dose.value,
         grams: grams.value,

@@ -6,7 +6,7 @@ use crate::enter::put_whole;
 use crate::row::Row;
 use crate::row::read_row;
 ghost use mathlib.Core.Path.{_≡_};
-ghost use mathlib.Core.Bool.{_&&_, not};
+ghost use mathlib.Core.Bool.{_&&_, not, cond};
 ghost use Prim.Native.Nat.{_≤_, _<_, _+_, _*_, _^_};
 ghost use lib.ListN.{length};
 ghost use Rattle.readings.specs.Table.{roomOf, stillOf, markedOf, takenOf, enteredOf, settledOf, moveOf, state, stepOf};
@@ -141,6 +141,13 @@ fn header(letters: bool, started: bool) -> bool
     false
 }
 
+// A header that names the columns in another order is refused.
+fn header_fault(ordered: bool) -> u64
+    ensures { λ r. ⌜ r ≡ cond ordered 0 11 ⌝ }
+{
+    if ordered { 0 } else { 11 }
+}
+
 // What a line changes; q is the progress past it.
 fn settled(text: &[u8], q: Progress, row: Row, room: usize, names: &[u64]) -> Move
     requires { ⌜ (row .start ≤ row .stop) × (row .stop ≤ length (now text)) ⌝ }
@@ -152,7 +159,7 @@ fn settled(text: &[u8], q: Progress, row: Row, room: usize, names: &[u64]) -> Mo
         return still(q);
     }
     if header(row.letters, q.started) {
-        return marked(q, 0);
+        return marked(q, header_fault(row.ordered));
     }
     if row.fault != 0 {
         return marked(q, row.fault);
@@ -171,11 +178,10 @@ fn moved(text: &[u8], p: Progress, room: usize, names: &[u64]) -> Move
     ensures { λ r. ⌜ (r .next .line ≡ p .line + 1) × (r .next .count ≤ room) × (2 * r .next .canisters ≤ length (now (names .entry))) ⌝ }
 {
     let at = p.at;
-    let end = scan(text, at, 4);
-    let last = scan(text, end, 3);
+    let end = scan(text, at, 3);
     let row = read_row(&text[..end], at);
     let q = Progress {
-        at: last + 1,
+        at: end + 1,
         line: p.line + 1,
         count: p.count,
         canisters: p.canisters,

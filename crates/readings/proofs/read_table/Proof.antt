@@ -18,9 +18,12 @@ Inv-loop text doses₀ grams₀ groups₀ names₀ p₀ left₀ doses grams grou
 abbrev μ-loop : tie.MeasureT-loop
 μ-loop text doses₀ grams₀ groups₀ names₀ p₀ left₀ doses grams groups names p left = left
 
+after-mark-requires : tie.Need-after-mark-requires Inv-loop μ-loop
+after-mark-requires c κs = search needs
+
 loop-holds : tie.Need-loop-holds Inv-loop μ-loop
 unfolding tableOf
-loop-holds c = (omega arith, omega arith, omega arith, omega arith, omega arith, refl, refl, refl, refl, refl)
+loop-holds c = (omega arith, omega arith, omega arith, omega arith, omega arith, refl, refl, refl, refl, rw (c .after-mark .ensures))
 
 running-requires : tie.Need-running-requires Inv-loop μ-loop
 running-requires c κs = search needs
@@ -29,28 +32,28 @@ next-line-requires : tie.Need-next-line-requires Inv-loop μ-loop
 next-line-requires c κs =
     let h = sym (c .before .before .before .before .before .running .ensures) ∙ c .before .before .before .before .if1 .taken in
     let l = c .before .before .before .before .before .before .loop in
-    let a = c .before .before .before .before .before .before .before .before .before .before .before .before .args in
+    let a = c .before .before .before .before .before .before .before .before .before .before .before .before .before .args in
     ((going (length (a .text .now)) (l .left) (l .p) h .1, omega (arith, going (length (a .text .now)) (l .left) (l .p) h .0)), (l .inv .1, l .inv .2, l .inv .3, l .inv .4))
 
 sub-left : tie.Need-sub-left Inv-loop μ-loop
 sub-left c =
     let h = sym (c .before .before .before .before .before .before .before .before .before .before .before .before .before .before .running .ensures) ∙ c .before .before .before .before .before .before .before .before .before .before .before .before .before .if1 .taken in
     let l = c .before .before .before .before .before .before .before .before .before .before .before .before .before .before .before .loop in
-    let a = c .before .before .before .before .before .before .before .before .before .before .before .before .before .before .before .before .before .before .before .before .before .args in
+    let a = c .before .before .before .before .before .before .before .before .before .before .before .before .before .before .before .before .before .before .before .before .before .before .args in
     omega (arith, going (length (a .text .now)) (l .left) (l .p) h .0)
 
 loop-less : tie.Need-loop-less Inv-loop μ-loop
 loop-less c =
     let h = sym (c .before .before .before .before .before .before .before .before .before .before .before .before .before .before .running .ensures) ∙ c .before .before .before .before .before .before .before .before .before .before .before .before .before .if1 .taken in
     let l = c .before .before .before .before .before .before .before .before .before .before .before .before .before .before .before .loop in
-    let a = c .before .before .before .before .before .before .before .before .before .before .before .before .before .before .before .before .before .before .before .before .before .args in
+    let a = c .before .before .before .before .before .before .before .before .before .before .before .before .before .before .before .before .before .before .before .before .before .before .args in
     omega (arith, going (length (a .text .now)) (l .left) (l .p) h .0)
 
 loop-again : tie.Need-loop-again Inv-loop μ-loop
 loop-again c =
     let h = sym (c .before .before .before .before .before .before .before .before .before .before .before .before .before .before .running .ensures) ∙ c .before .before .before .before .before .before .before .before .before .before .before .before .before .if1 .taken in
     let l = c .before .before .before .before .before .before .before .before .before .before .before .before .before .before .before .loop in
-    let a = c .before .before .before .before .before .before .before .before .before .before .before .before .before .before .before .before .before .before .before .before .before .args in
+    let a = c .before .before .before .before .before .before .before .before .before .before .before .before .before .before .before .before .before .before .before .before .before .before .args in
     let i = l .inv in
     let e = c .before .before .before .before .before .before .before .before .next-line .ensures in
     let b = e .1 .1 .1 .1 .1 in
@@ -88,7 +91,7 @@ returns : tie.Need-returns Inv-loop μ-loop
 returns c =
     let h = sym (c .before .before .running .ensures) ∙ c .before .if1 .left in
     let l = c .before .before .before .loop in
-    let a = c .before .before .before .before .before .before .before .before .before .args in
+    let a = c .before .before .before .before .before .before .before .before .before .before .args in
     let i = l .inv in
     let t = (sym (lines-stop (a .text .now) (l .left) (state (l .p) (l .doses) (l .grams) (l .groups) (l .names)) h) ∙ l .inv .9) in (
       done-is (l .p) _ (c .last-fault .ensures) ∙ ap (λ (s : State). finishOf (s .progress)) t,
@@ -107,6 +110,7 @@ read-table-spec =
     (tie.spec
     Inv-loop
     μ-loop
+    after-mark-requires
     loop-holds
     running-requires
     next-line-requires

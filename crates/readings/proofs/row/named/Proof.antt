@@ -15,11 +15,11 @@ scan-requires c κs = search needs
 
 returns : tie.Need-returns
 unfolding namedOf
-returns c = rw (lt-ltb _ _ (c .before .before .if1 .taken), le-leb _ _ (c .before .if2 .taken)) (ap (leb (c .before .before .before .before .args .stop)) (c .scan .ensures .0))
+returns c = rw (lt-ltb _ _ (c .before .before .if1 .taken), le-leb _ 32 (c .before .if2 .taken)) (ap (leb (c .before .before .before .before .args .stop)) (c .scan .ensures .0))
 
 returns-2 : tie.Need-returns-2
 unfolding namedOf
-returns-2 c = rw (lt-ltb _ _ (c .before .if1 .taken), lt-leb _ _ (c .if2 .left))
+returns-2 c = rw (lt-ltb _ _ (c .before .if1 .taken), lt-leb _ 32 (c .if2 .left))
 
 returns-3 : tie.Need-returns-3
 unfolding namedOf

@@ -49,6 +49,12 @@ met-requires-2 c κs = search needs
 both-requires : tie.Need-both-requires
 both-requires c κs = search needs
 
+in-order-requires : tie.Need-in-order-requires
+in-order-requires c κs = search needs
+
+decimal-comma-requires : tie.Need-decimal-comma-requires
+decimal-comma-requires c κs = search needs
+
 both-requires-2 : tie.Need-both-requires-2
 both-requires-2 c κs = search needs
 
@@ -58,10 +64,14 @@ named-requires c κs = search needs
 row-fault-requires : tie.Need-row-fault-requires
 row-fault-requires c κs = search needs
 
+blank-requires : tie.Need-blank-requires
+blank-requires c κs = search needs
+
 returns : tie.Need-returns
 returns c =
-    let a = c .before .before .before .before .before .before .before .before .before .before .before .before .before .before .before .before .before .args in
-    (row-is (a .line .now) (a .at) _ _ _ _ _ _ _ _ _ _ _ _ (c .before .before .before .before .before .before .before .before .before .before .before .before .before .before .before .scan .ensures .0) (c .before .before .before .before .before .before .before .before .before .before .before .before .before .before .read-field .ensures .0) (c .before .before .before .before .before .before .before .before .before .before .before .before .before .read-field2 .ensures .0) (c .before .before .before .before .before .before .before .before .before .before .before .before .read-field3 .ensures .0) (c .before .before .before .before .before .before .before .before .before .before .read-number .ensures) (c .before .before .before .before .before .before .before .before .read-number2 .ensures) (c .before .before .before .before .before .before .before .met .ensures) (c .before .before .before .before .before .before .met2 .ensures) (c .before .before .before .before .before .both .ensures) (c .before .before .both2 .ensures) (c .before .named .ensures) (c .row-fault .ensures), (c .before .before .before .before .before .before .before .before .before .before .before .before .read-field3 .ensures .1 .0, c .before .before .before .before .before .before .before .before .before .before .before .before .read-field3 .ensures .1 .1))
+    let m = c .before .before .before .before .before .before .before .before in
+    let a = m .before .before .before .before .before .before .before .before .before .before .before .before .args in
+    (row-is (a .line .now) (a .at) _ _ _ _ _ _ _ _ _ _ _ _ _ _ _ (m .before .before .before .before .before .before .before .before .before .before .scan .ensures .0) (m .before .before .before .before .before .before .before .before .before .read-field .ensures .0) (m .before .before .before .before .before .before .before .before .read-field2 .ensures .0) (m .before .before .before .before .before .before .before .read-field3 .ensures .0) (m .before .before .before .before .before .read-number .ensures) (m .before .before .before .read-number2 .ensures) (m .before .before .met .ensures) (m .before .met2 .ensures) (m .both .ensures) (c .before .before .before .before .before .before .before .in-order .ensures) (c .before .before .before .before .before .before .decimal-comma .ensures) (c .before .before .before .both2 .ensures) (c .before .before .named .ensures) (c .before .row-fault .ensures) (c .blank .ensures), (m .before .before .before .before .before .before .before .read-field3 .ensures .1 .0, m .before .before .before .before .before .before .before .read-field3 .ensures .1 .1))
 
 pub read-row-spec : {M : Type 1} → statement M
 read-row-spec =
@@ -82,7 +92,10 @@ read-row-spec =
     met-requires
     met-requires-2
     both-requires
+    in-order-requires
+    decimal-comma-requires
     both-requires-2
     named-requires
     row-fault-requires
+    blank-requires
     returns)

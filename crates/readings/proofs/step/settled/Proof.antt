@@ -17,13 +17,16 @@ returns c =
 header-requires : tie.Need-header-requires
 header-requires c κs = search needs
 
+header-fault-requires : tie.Need-header-fault-requires
+header-fault-requires c κs = search needs
+
 marked-requires : tie.Need-marked-requires
 marked-requires c κs = search needs
 
 returns-2 : tie.Need-returns-2
 returns-2 c =
-    let a = c .before .before .before .before .before .before .args in
-    (c .marked .ensures .0 ∙ settled-header (a .text .now) (a .q) (a .row) (a .names .now) (a .room) (c .before .before .before .if1 .left) (sym (c .before .before .header .ensures) ∙ c .before .if2 .taken), (c .marked .ensures .1 .0, omega arith, omega arith))
+    let a = c .before .before .before .before .before .before .before .args in
+    (c .marked .ensures .0 ∙ settled-header (a .text .now) (a .q) (a .row) (a .names .now) (a .room) (c .before .before .before .before .if1 .left) _ (sym (c .before .before .before .header .ensures) ∙ c .before .before .if2 .taken) (c .before .header-fault .ensures), (c .marked .ensures .1 .0, omega arith, omega arith))
 
 marked-requires-2 : tie.Need-marked-requires-2
 marked-requires-2 c κs = search needs
@@ -56,6 +59,7 @@ settled-spec =
     still-requires
     returns
     header-requires
+    header-fault-requires
     marked-requires
     returns-2
     marked-requires-2
