@@ -1,29 +1,19 @@
 -- Names and meanings in words. The values of the curves have the names that R's users know, each with a number here. Definitions only.
-use Prim.Native.Nat.{ℕ, suc}
-use Prim.Native.String.{String}
+use Prim.Native.Nat.{ℕ}
 use mathlib.Core.Bool.{Bool, cond}
 use mathlib.Core.List.{List, [], _∷_, _++_}
 use lib.Dec.{eqb}
 use lib.ListN.{getD}
-use Rattle.math.specs.Lists.{sameBytes}
 use Rattle.figures.specs.Text.{bytes, wholeText}
-use Rattle.lines.specs.Lines.{wordOf}
+use Rattle.lines.specs.Lines.{wordOf, numberOf}
 
--- the number of a word among some, the first of which has number n; 0 for any other word
-abbrev pub numberFrom : ℕ → List String → List ℕ → ℕ
-numberFrom n [] word = 0
-numberFrom n (s ∷ ss) word = cond (sameBytes word (bytes s)) n (numberFrom (suc n) ss word)
-
--- the number of a value's name, 5 and later, and of any
-unfoldable pub laterNameOf : List ℕ → ℕ
-laterNameOf = numberFrom 5 ("lrc" ∷ "Vm" ∷ "K" ∷ "A" ∷ "B" ∷ [])
-
+-- the number of a value's name; 0 for any other word
 unfoldable pub nameOf : List ℕ → ℕ
-nameOf = numberFrom 1 ("Asym" ∷ "xmid" ∷ "scal" ∷ "R0" ∷ "lrc" ∷ "Vm" ∷ "K" ∷ "A" ∷ "B" ∷ [])
+nameOf = numberOf (bytes "\nAsym\nxmid\nscal\nR0\nlrc\nVm\nK\nA\nB\n")
 
--- the code of a curve's name
+-- the code of a curve's name; 0 for any other word
 unfoldable pub curveOf : List ℕ → ℕ
-curveOf = numberFrom 1 ("SSlogis" ∷ "SSasymp" ∷ "SSmicmen" ∷ "SSfpl" ∷ [])
+curveOf = numberOf (bytes "\nSSlogis\nSSasymp\nSSmicmen\nSSfpl\n")
 
 -- the numbers of the names of a curve's values; 0 is none
 unfoldable pub namesOf : ℕ → List ℕ
@@ -62,7 +52,7 @@ unfoldable pub faultText : ℕ → List ℕ
 faultText number =
     wordOf number
     (bytes
-    "\nnot three fields: dose, grams, canister\nthe dose is not a decimal number\nthe grams are not a decimal number\na number of more than 15 significant digits\na number whose exponent is out of range\nthe canister's name is empty, longer than 32 bytes, or has a sign that is no letter, digit, '-', '.' or '_'\nmore than 512 readings\nmore than 32 canisters\nthere are no readings\n")
+    "\nnot three fields: dose, grams, canister (a comment has a line of its own)\nthe dose is not a decimal number\nthe grams are not a decimal number\na number of more than 15 significant digits\na number whose exponent is out of range\nthe canister's name is empty, longer than 32 bytes, or has a sign that is no letter, digit, '-', '.' or '_'\nmore than 512 readings\nmore than 32 canisters\nthere are no readings\na decimal comma, or a comma beside another separator: write decimals with a point, and one separator in a line\nthe header names its columns in another order than dose, grams, canister\n")
 
 -- the same with the line's number; line 0 is none
 unfoldable pub lineFaultText : ℕ → ℕ → List ℕ

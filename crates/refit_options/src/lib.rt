@@ -2,12 +2,3 @@
 pub mod help;
 pub mod options;
 pub mod words;
-
-ghost use mathlib.Core.Path.{_≡_};
-ghost use Rattle.math.specs.Lists.{sameBytes};
-
-fn same_bytes(a: &[u8], b: &[u8]) -> bool
-    ensures { λ r. ⌜ r ≡ sameBytes (now (a .entry)) (now (b .entry)) ⌝ }
-{
-    check::same(a, b)
-}

@@ -1,21 +1,25 @@
 // The words of the command line, one after the other.
-use crate::same_bytes;
 use crate::words::curve_of;
 use crate::words::name_of;
 use crate::words::place_of;
 use figures::Place;
+use lines::words::number_of;
 use lines::words::word;
 ghost use mathlib.Core.Path.{_≡_};
-ghost use Prim.Native.Nat.{_≤_};
+ghost use mathlib.Core.Bool.{false, _&&_, not};
+ghost use Prim.Native.Nat.{_≤_, _<_};
+ghost use lib.Dec.{eqb};
+ghost use lib.ListN.{getD, length};
 ghost use Rattle.figures.specs.Text.{wrote};
-ghost use Rattle.refit_options.specs.Options.{nothingAsked, faultyAt, digitOf, smallOf, endsInSvg, awaitedOf, laterOptionOf, optionOf, fileOf, optionFrom, nextOf, lastOf, optionFault};
+ghost use Rattle.refit_options.specs.Options.{nothingAsked, faultyAt, digitOf, smallOf, endsInSvg, awaitedOf, optionOf, slotOf, saying, fileOf, optionFrom, nextOf, lastOf, optionFault};
 
-// What is asked for. `awaits` is the option whose word comes next: 1 curve, 2 effect, 3 quadrature, 4 svg. The file
-// and the picture are numbers of words; 0 is none. `fault` is 0, or the fault of word `at`.
+// What is asked for. `prints` is 1 for the help and 2 for the version. `awaits` is the option whose word comes next: 1 curve,
+// 2 effect, 3 quadrature, 4 svg, 5 start; `said` tells those that were said, and the method at 6. The file, the picture and
+// the start values are numbers of words; 0 is none. `fault` is 0, or the fault of word `at`.
 pub struct Options {
     pub fault: u64,
     pub at: usize,
-    pub help: bool,
+    pub prints: u64,
     pub awaits: u64,
     pub code: u64,
     pub effect: u64,
@@ -25,6 +29,8 @@ pub struct Options {
     pub n_agq: u64,
     pub file: usize,
     pub svg: usize,
+    pub start: usize,
+    pub said: [bool; 8],
 }
 
 pub fn none() -> Options
@@ -33,7 +39,7 @@ pub fn none() -> Options
     Options {
         fault: 0,
         at: 0,
-        help: false,
+        prints: 0,
         awaits: 0,
         code: 1,
         effect: 0,
@@ -43,6 +49,8 @@ pub fn none() -> Options
         n_agq: 1,
         file: 0,
         svg: 0,
+        start: 0,
+        said: [false; 8],
     }
 }
 
@@ -52,13 +60,6 @@ fn faulty(mut o: Options, fault: u64, at: usize) -> Options
     o.fault = fault;
     o.at = at;
     o
-}
-
-// A word that does not fit the room for words.
-pub fn too_long(o: Options, i: usize) -> Options
-    ensures { λ r. ⌜ r ≡ faultyAt o 9 i ⌝ }
-{
-    faulty(o, 9, i)
 }
 
 fn digit(b: u8) -> u64
@@ -90,7 +91,7 @@ fn ends_in_svg(word: &[u8]) -> bool
     if n < 5 {
         return false;
     }
-    same_bytes(&word[n - 4..], b".svg")
+    number_of(b"\n.svg\n", &word[n - 4..]) == 1
 }
 
 // The word that an option awaits.
@@ -121,6 +122,10 @@ fn awaited(mut o: Options, word: &[u8], i: usize) -> Options
         }
         return o;
     }
+    if option == 5 {
+        o.start = i;
+        return o;
+    }
     o.svg = i;
     if ends_in_svg(word) {
         return o;
@@ -128,38 +133,42 @@ fn awaited(mut o: Options, word: &[u8], i: usize) -> Options
     faulty(o, 8, i)
 }
 
-// The option that a word is: 1 to 4 await a word, 5 reml, 6 ml, 7 and 8 help, 0 another word.
+// The option that a word is: 1 to 5 await a word, 6 reml, 7 ml, 8 to 10 help, 11 version, 0 another word.
 fn option_of(word: &[u8]) -> u64
     ensures { λ r. ⌜ r ≡ optionOf (now (word .entry)) ⌝ }
 {
-    if same_bytes(word, b"--curve") {
-        return 1;
-    }
-    if same_bytes(word, b"--effect") {
-        return 2;
-    }
-    if same_bytes(word, b"--quadrature") {
-        return 3;
-    }
-    if same_bytes(word, b"--svg") {
-        return 4;
-    }
-    later_option_of(word)
+    number_of(
+        b"\n--curve\n--effect\n--quadrature\n--svg\n--start\n--reml\n--ml\n--help\n-h\nhelp\n--version\n",
+        word,
+    )
 }
 
-fn later_option_of(word: &[u8]) -> u64
-    ensures { λ r. ⌜ r ≡ laterOptionOf (now (word .entry)) ⌝ }
+// Where an option is kept that may be said once: at its number, both methods at 6, and 0 for what may be said again.
+fn slot(option: u64) -> usize
+    ensures { λ r. ⌜ (r ≡ slotOf option) × (r < 8) ⌝ }
 {
-    if same_bytes(word, b"--reml") {
-        return 5;
+    if option < 6 {
+        return option as usize;
     }
-    if same_bytes(word, b"--ml") {
-        return 6;
+    if option < 8 { 6 } else { 0 }
+}
+
+fn said(o: Options, s: usize) -> bool
+    requires { ⌜ s < 8 ⌝ }
+    ensures { λ r. ⌜ r ≡ (not (eqb s 0) && getD (o .said) s false) ⌝ }
+{
+    if s == 0 {
+        return false;
     }
-    if same_bytes(word, b"--help") {
-        return 7;
-    }
-    if same_bytes(word, b"help") { 8 } else { 0 }
+    o.said[s]
+}
+
+fn say(mut o: Options, s: usize) -> Options
+    requires { ⌜ s < 8 ⌝ }
+    ensures { λ r. ⌜ r ≡ saying o s ⌝ }
+{
+    o.said[s] = true;
+    o
 }
 
 // A word that is no option: the file's name.
@@ -183,33 +192,23 @@ fn file(mut o: Options, word: &[u8], i: usize) -> Options
 fn option_from(option: u64, mut o: Options, word: &[u8], i: usize) -> Options
     ensures { λ r. ⌜ r ≡ optionFrom option o (now (word .entry)) i ⌝ }
 {
-    match option {
-        0 => file(o, word, i),
-        5 => {
-            o.reml = true;
-            o
-        }
-        6 => {
-            o.reml = false;
-            o
-        }
-        7 => {
-            o.help = true;
-            o
-        }
-        8 => {
-            o.help = true;
-            o
-        }
-        _ => {
-            o.awaits = option;
-            o.at = i;
-            o
-        }
+    if option == 0 {
+        return file(o, word, i);
     }
+    if option < 6 {
+        o.awaits = option;
+        o.at = i;
+        return o;
+    }
+    if option < 8 {
+        o.reml = option == 6;
+        return o;
+    }
+    o.prints = if option < 11 { 1 } else { 2 };
+    o
 }
 
-// One word more, the i-th.
+// One word more, the i-th. An option is said once, and one method.
 pub fn next(o: Options, word: &[u8], i: usize) -> Options
     ensures { λ r. ⌜ r ≡ nextOf o (now (word .entry)) i ⌝ }
 {
@@ -219,7 +218,12 @@ pub fn next(o: Options, word: &[u8], i: usize) -> Options
     if o.awaits != 0 {
         return awaited(o, word, i);
     }
-    option_from(option_of(word), o, word, i)
+    let option = option_of(word);
+    let s = slot(option);
+    if said(o, s) {
+        return faulty(o, 10, i);
+    }
+    option_from(option, say(o, s), word, i)
 }
 
 // After the last word.
@@ -250,7 +254,7 @@ pub fn fault(out: &mut [u8], p: Place, number: u64) -> Place
     word(
         out,
         p,
-        b"\nno such option; 'refit help' tells them\nthis option wants a word after it; 'refit help' tells which\nno such curve; there are SSlogis, SSasymp, SSmicmen and SSfpl\nno curve has a value of this name; 'refit help' tells the names\nthe effect is not a value of the curve; 'refit help' tells the names\nthe order of quadrature is a whole number from 0 to 11\na second file; one file is read at a time\nthe picture's name must end in .svg\na word of the command line that is too long\n",
+        b"\nno such option; 'refit help' tells them\nthis option wants a word after it; 'refit help' tells which\nno such curve; there are SSlogis, SSasymp, SSmicmen and SSfpl\nno curve has a value of this name; 'refit help' tells the names\nthe effect is not a value of the curve; 'refit help' tells the names\nthe order of quadrature is a whole number from 0 to 11\na second file; one file is read at a time\nthe picture's name must end in .svg\nthe command line is too long\nthis option was given before, or one that contradicts it\n--start wants as many numbers as the curve has values, with commas between them and points for decimals, as in 200,725,350\n",
         number,
     )
 }

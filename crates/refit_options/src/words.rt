@@ -1,50 +1,20 @@
 // Names and meanings in words. The values of the curves have the names that R's users know, each with a number here.
-use crate::same_bytes;
 use figures::Place;
 use figures::put;
 use figures::whole;
+use lines::words::number_of;
 use lines::words::word;
 ghost use mathlib.Core.Path.{_≡_};
 ghost use mathlib.Core.List.{[], _∷_};
 ghost use lib.ListN.{getD};
 ghost use Rattle.figures.specs.Text.{wrote};
-ghost use Rattle.refit_options.specs.Words.{nameOf, laterNameOf, curveOf, namesOf, placeOf, nameText, curveText, refusalText, faultText, lineFaultText};
+ghost use Rattle.refit_options.specs.Words.{nameOf, curveOf, namesOf, placeOf, nameText, curveText, refusalText, faultText, lineFaultText};
 
 // The number of a value's name: 1 Asym, 2 xmid, 3 scal, 4 R0, 5 lrc, 6 Vm, 7 K, 8 A, 9 B; 0 for any other word.
 pub fn name_of(word: &[u8]) -> u64
     ensures { λ r. ⌜ r ≡ nameOf (now (word .entry)) ⌝ }
 {
-    if same_bytes(word, b"Asym") {
-        return 1;
-    }
-    if same_bytes(word, b"xmid") {
-        return 2;
-    }
-    if same_bytes(word, b"scal") {
-        return 3;
-    }
-    if same_bytes(word, b"R0") {
-        return 4;
-    }
-    later_name_of(word)
-}
-
-fn later_name_of(word: &[u8]) -> u64
-    ensures { λ r. ⌜ r ≡ laterNameOf (now (word .entry)) ⌝ }
-{
-    if same_bytes(word, b"lrc") {
-        return 5;
-    }
-    if same_bytes(word, b"Vm") {
-        return 6;
-    }
-    if same_bytes(word, b"K") {
-        return 7;
-    }
-    if same_bytes(word, b"A") {
-        return 8;
-    }
-    if same_bytes(word, b"B") { 9 } else { 0 }
+    number_of(b"\nAsym\nxmid\nscal\nR0\nlrc\nVm\nK\nA\nB\n", word)
 }
 
 // The number of the name of value i of a curve, 0 where it has no such value.
@@ -92,16 +62,7 @@ pub fn place_of(code: u64, number: u64) -> usize
 pub fn curve_of(word: &[u8]) -> u64
     ensures { λ r. ⌜ r ≡ curveOf (now (word .entry)) ⌝ }
 {
-    if same_bytes(word, b"SSlogis") {
-        return 1;
-    }
-    if same_bytes(word, b"SSasymp") {
-        return 2;
-    }
-    if same_bytes(word, b"SSmicmen") {
-        return 3;
-    }
-    if same_bytes(word, b"SSfpl") { 4 } else { 0 }
+    number_of(b"\nSSlogis\nSSasymp\nSSmicmen\nSSfpl\n", word)
 }
 
 // The name of value i of a curve.
@@ -147,7 +108,7 @@ fn fault(out: &mut [u8], p: Place, number: u64) -> Place
     word(
         out,
         p,
-        b"\nnot three fields: dose, grams, canister\nthe dose is not a decimal number\nthe grams are not a decimal number\na number of more than 15 significant digits\na number whose exponent is out of range\nthe canister's name is empty, longer than 32 bytes, or has a sign that is no letter, digit, '-', '.' or '_'\nmore than 512 readings\nmore than 32 canisters\nthere are no readings\n",
+        b"\nnot three fields: dose, grams, canister (a comment has a line of its own)\nthe dose is not a decimal number\nthe grams are not a decimal number\na number of more than 15 significant digits\na number whose exponent is out of range\nthe canister's name is empty, longer than 32 bytes, or has a sign that is no letter, digit, '-', '.' or '_'\nmore than 512 readings\nmore than 32 canisters\nthere are no readings\na decimal comma, or a comma beside another separator: write decimals with a point, and one separator in a line\nthe header names its columns in another order than dose, grams, canister\n",
         number,
     )
 }

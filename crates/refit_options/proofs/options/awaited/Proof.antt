@@ -47,19 +47,42 @@ returns-6 : tie.Need-returns-6
 unfolding awaitedOf
 returns-6 c = rw (ne-eqb _ _ (c .before .before .before .before .before .if1 .left), ne-eqb _ _ (c .before .before .before .before .if3 .left), eq-eqb _ _ (c .before .before .before .if5 .taken), ← c .before .before .small .ensures, le-ltb _ _ (c .if6 .left))
 
+returns-7 : tie.Need-returns-7
+unfolding awaitedOf
+returns-7 c = rw (ne-eqb _ _ (c .before .before .before .if1 .left), ne-eqb _ _ (c .before .before .if3 .left), ne-eqb _ _ (c .before .if5 .left), eq-eqb _ _ (c .if7 .taken))
+
 ends-in-svg-requires : tie.Need-ends-in-svg-requires
 ends-in-svg-requires c κs = search needs
 
-returns-7 : tie.Need-returns-7
+returns-8 : tie.Need-returns-8
 unfolding awaitedOf
-returns-7 c = rw (ne-eqb _ _ (c .before .before .before .before .if1 .left), ne-eqb _ _ (c .before .before .before .if3 .left), ne-eqb _ _ (c .before .before .if5 .left), ← c .before .ends-in-svg .ensures, c .if7 .taken)
+returns-8 c = rw (ne-eqb _ _ (c .before .before .before .before .before .if1 .left), ne-eqb _ _ (c .before .before .before .before .if3 .left), ne-eqb _ _ (c .before .before .before .if5 .left), ne-eqb _ _ (c .before .before .if7 .left), ← c .before .ends-in-svg .ensures, c .if8 .taken)
 
 faulty-requires-4 : tie.Need-faulty-requires-4
 faulty-requires-4 c κs = search needs
 
-returns-8 : tie.Need-returns-8
+returns-9 : tie.Need-returns-9
 unfolding awaitedOf
-returns-8 c = rw (ne-eqb _ _ (c .before .before .before .before .before .if1 .left), ne-eqb _ _ (c .before .before .before .before .if3 .left), ne-eqb _ _ (c .before .before .before .if5 .left), ← c .before .before .ends-in-svg .ensures, c .before .if7 .left) (c .faulty4 .ensures)
+returns-9 c = rw (ne-eqb _ _ (c .before .before .before .before .before .before .if1 .left), ne-eqb _ _ (c .before .before .before .before .before .if3 .left), ne-eqb _ _ (c .before .before .before .before .if5 .left), ne-eqb _ _ (c .before .before .before .if7 .left), ← c .before .before .ends-in-svg .ensures, c .before .if8 .left) (c .faulty4 .ensures)
 
 pub awaited-spec : {M : Type 1} → statement M
-awaited-spec = tie.close (tie.spec curve-of-requires faulty-requires returns returns-2 name-of-requires faulty-requires-2 returns-3 returns-4 small-requires faulty-requires-3 returns-5 returns-6 ends-in-svg-requires returns-7 faulty-requires-4 returns-8)
+awaited-spec =
+    tie.close
+    (tie.spec
+    curve-of-requires
+    faulty-requires
+    returns
+    returns-2
+    name-of-requires
+    faulty-requires-2
+    returns-3
+    returns-4
+    small-requires
+    faulty-requires-3
+    returns-5
+    returns-6
+    returns-7
+    ends-in-svg-requires
+    returns-8
+    faulty-requires-4
+    returns-9)
