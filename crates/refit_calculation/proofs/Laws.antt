@@ -1,4 +1,4 @@
--- When scal is turned, the bounds that are lent, and what follows the start values. Assumes nothing.
+-- Which start is adjusted, the bounds that are lent, and what follows the start values. Assumes nothing.
 use mathlib.Core.Path.{_≡_, refl, sym, ap, _∙_}
 use mathlib.Core.Bool.{Bool, true, false, cond}
 use mathlib.Core.List.{List, []}
@@ -9,34 +9,47 @@ use lib.Dec.{eqb, ltb}
 use lib.Ieee.{Float, nan, inf, lt, neg}
 use lib.ListN.{length, getD, set, take, replicate}
 use Rattle.math.specs.Basic.{zero}
+use Rattle.math.specs.Ln.{lnOf}
 use Rattle.curves.specs.MeanFn.{nParamsOf}
 use Rattle.problem.specs.Problem.{problemOf}
-use Rattle.refit_calculation.specs.Refit.{Refitted, withSearch, isTurned, turnedOf, withStarts}
+use Rattle.refit_calculation.specs.Refit.{Refitted, withSearch, isAdjusted, adjustedOf, withStarts}
 
-pub other-curve : (code : ℕ) (l : List Float) → (code ≡ 1 → ⊥) → (false ≡ isTurned code l) × (l ≡ turnedOf code l)
-unfolding isTurned turnedOf
-other-curve code l h = let z : eqb code 1 ≡ false = ne-eqb code 1 h in (rw z refl, rw z refl)
+-- ---- which start is adjusted, by the tests of the code
+module _ (code : ℕ) (l : List Float) where
+  abbrev kept : Type 0
+  kept = (false ≡ isAdjusted code l) × (l ≡ adjustedOf code l)
 
-pub too-short : (code : ℕ) (l : List Float) → code ≡ 1 → length l ≤ 2 → (false ≡ isTurned code l) × (l ≡ turnedOf code l)
-unfolding isTurned turnedOf
-too-short code l e h =
-    let y : eqb code 1 ≡ true = eq-eqb code 1 e in
-    let z : ltb 2 (length l) ≡ false = le-ltb 2 (length l) h in
-    (rw (y, z) refl, rw (y, z) refl)
+  pub too-short : length l ≤ 2 → kept
+  unfolding isAdjusted adjustedOf
+  too-short h = let z : ltb 2 (length l) ≡ false = le-ltb 2 (length l) h in (rw z refl, rw z refl)
 
-pub not-negative : (code : ℕ) (l : List Float) → code ≡ 1 → 2 < length l → lt (getD l 2 nan) zero ≡ false → (false ≡ isTurned code l) × (l ≡ turnedOf code l)
-unfolding isTurned turnedOf
-not-negative code l e h n =
-    let y : eqb code 1 ≡ true = eq-eqb code 1 e in
-    let z : ltb 2 (length l) ≡ true = lt-ltb 2 (length l) h in
-    (rw (y, z, n) refl, rw (y, z, n) refl)
+  module _ (h : 2 < length l) where
+    long : ltb 2 (length l) ≡ true
+    long = lt-ltb 2 (length l) h
 
-pub negative : (code : ℕ) (l : List Float) → code ≡ 1 → 2 < length l → lt (getD l 2 nan) zero ≡ true → (true ≡ isTurned code l) × (set l 2 (neg (getD l 2 nan)) ≡ turnedOf code l)
-unfolding isTurned turnedOf
-negative code l e h n =
-    let y : eqb code 1 ≡ true = eq-eqb code 1 e in
-    let z : ltb 2 (length l) ≡ true = lt-ltb 2 (length l) h in
-    (rw (y, z, n) refl, rw (y, z, n) refl)
+    pub scal-turned : code ≡ 1 → lt (getD l 2 nan) zero ≡ true → (true ≡ isAdjusted code l) × (set l 2 (neg (getD l 2 nan)) ≡ adjustedOf code l)
+    unfolding isAdjusted adjustedOf
+    scal-turned e n = let y : eqb code 1 ≡ true = eq-eqb code 1 e in (rw (long, y, n) refl, rw (long, y, n) refl)
+
+    pub scal-kept : code ≡ 1 → lt (getD l 2 nan) zero ≡ false → kept
+    unfolding isAdjusted adjustedOf
+    scal-kept e n = let y : eqb code 1 ≡ true = eq-eqb code 1 e in (rw (long, y, n) refl, rw (long, y, n) refl)
+
+    module _ (o : code ≡ 1 → ⊥) where
+      other : eqb code 1 ≡ false
+      other = ne-eqb code 1 o
+
+      pub lrc-logged : (x : Float) → code ≡ 2 → lt zero (getD l 2 nan) ≡ true → x ≡ lnOf (getD l 2 nan) → (true ≡ isAdjusted code l) × (set l 2 x ≡ adjustedOf code l)
+      unfolding isAdjusted adjustedOf
+      lrc-logged x e n g = let y : eqb code 2 ≡ true = eq-eqb code 2 e in (rw (long, other, y, n) refl, rw (long, other, y, n, g) refl)
+
+      pub lrc-kept : code ≡ 2 → lt zero (getD l 2 nan) ≡ false → kept
+      unfolding isAdjusted adjustedOf
+      lrc-kept e n = let y : eqb code 2 ≡ true = eq-eqb code 2 e in (rw (long, other, y, n) refl, rw (long, other, y, n) refl)
+
+      pub other-kept : (code ≡ 2 → ⊥) → kept
+      unfolding isAdjusted adjustedOf
+      other-kept e = let y : eqb code 2 ≡ false = ne-eqb code 2 e in (rw (long, other, y) refl, rw (long, other, y) refl)
 
 -- the first p of four equal bounds
 first : (a b : Bool) (x : Float) → take (cond a 2 (cond b 4 3)) (replicate 4 x) ≡ replicate (cond a 2 (cond b 4 3)) x
@@ -52,20 +65,18 @@ bounds code p x y e f =
 
 module _ (code : ℕ) (doses grams : List Float) (group indices : List ℕ) (reml : Bool) (nAgq : ℕ) (values b : List Float) where
   abbrev searched : List Float → List Float → List Float → Bool → Refitted
-  searched starts lower upper turned =
-      withSearch (problemOf code doses grams group (length b) indices starts lower upper lower upper []) reml nAgq turned values b
+  searched starts lower upper adjusted =
+      withSearch (problemOf code doses grams group (length b) indices starts lower upper lower upper []) reml nAgq adjusted values b
 
-  pub as-started : (starts starts' : List Float) (turned : Bool) (big : Float) (p : ℕ) (r : Refitted)
-      → turned ≡ isTurned code starts → starts' ≡ turnedOf code starts → big ≡ inf false → p ≡ nParamsOf code
-      → searched starts' (take (p - 0) (replicate 4 (neg big))) (take (p - 0) (replicate 4 big)) turned ≡ r
-      → withStarts code doses grams group indices reml nAgq starts values b ≡ r
+  pub as-started : (starts : List Float) (adjusted : Bool) (big : Float) (p : ℕ) (r : Refitted)
+      → big ≡ inf false → p ≡ nParamsOf code
+      → searched starts (take (p - 0) (replicate 4 (neg big))) (take (p - 0) (replicate 4 big)) adjusted ≡ r
+      → withStarts code doses grams group indices reml nAgq adjusted starts values b ≡ r
   unfolding withStarts
-  as-started starts starts' turned big p r t s i e h =
+  as-started starts adjusted big p r i e h =
       let lower = bounds code p (neg big) (neg (inf false)) e (ap neg i) in
       let upper = bounds code p big (inf false) e i in
       sym
-      (ap (λ (l : List Float). searched l (take (p - 0) (replicate 4 (neg big))) (take (p - 0) (replicate 4 big)) turned) s
-      ∙ ap (λ (l : List Float). searched (turnedOf code starts) l (take (p - 0) (replicate 4 big)) turned) lower
-      ∙ ap (λ (l : List Float). searched (turnedOf code starts) (replicate (nParamsOf code) (neg (inf false))) l turned) upper
-      ∙ ap (λ (l : Bool). searched (turnedOf code starts) (replicate (nParamsOf code) (neg (inf false))) (replicate (nParamsOf code) (inf false)) l) t)
+      (ap (λ (l : List Float). searched starts l (take (p - 0) (replicate 4 big)) adjusted) lower
+      ∙ ap (λ (l : List Float). searched starts (replicate (nParamsOf code) (neg (inf false))) l adjusted) upper)
       ∙ h

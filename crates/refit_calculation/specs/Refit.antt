@@ -8,6 +8,7 @@ use lib.Dec.{eqb, ltb}
 use lib.Ieee.{Float, nan, inf, lt, neg}
 use lib.ListN.{length, getD, set, replicate}
 use Rattle.math.specs.Basic.{zero}
+use Rattle.math.specs.Ln.{lnOf}
 use Rattle.curves.specs.MeanFn.{nParamsOf}
 use Rattle.problem.specs.Problem.{Problem, problemOf, atTheta}
 use Rattle.self_start.specs.Start.{faultOf, answerOf, writtenOf}
@@ -35,13 +36,13 @@ pub record Refitted : Type 0 where
   pub values : List Float
   pub effects : List Float
 
--- a refusal tells its stage, 1 the start, 2 the search, 3 the fit or the criterion; its number; and whether scal had been turned
+-- a refusal tells its stage, 1 the start, 2 the search, 3 the fit or the criterion; its number; and whether the self-start's third value had been adjusted
 abbrev pub nothingBut : ℕ → ℕ → Bool → Answer
-nothingBut stage number turned =
+nothingBut stage number adjusted =
     record {
       stage = stage;
       refused = number;
-      turned = turned;
+      adjusted = adjusted;
       theta = zero;
       criterion = zero;
       narrowings = 0;
@@ -56,11 +57,11 @@ nothingBut stage number turned =
 
 -- theta and the criterion are the search's; rss and the counts are the fit's; sigma2 is the criterion's
 abbrev pub allOf : Bool → Found → Fitted → Profile → Answer
-allOf turned s f c =
+allOf adjusted s f c =
     record {
       stage = 0;
       refused = 0;
-      turned = turned;
+      adjusted = adjusted;
       theta = s .theta;
       criterion = s .criterion;
       narrowings = s .narrowings;
@@ -74,50 +75,54 @@ allOf turned s f c =
     }
 
 abbrev pub refusedAt : ℕ → ℕ → Bool → List Float → List Float → List Float → Refitted
-refusedAt stage number turned starts values b = record { answer = nothingBut stage number turned; starts = starts; values = values; effects = b }
+refusedAt stage number adjusted starts values b = record { answer = nothingBut stage number adjusted; starts = starts; values = values; effects = b }
 
 -- ---- the criterion at theta, after the fit there: it begins at the start values too, and writes the same lists
 
 abbrev pub criterionOr : Option Profile → Criterion.Told → List Float → Bool → Found → Fitted → Refitted
-criterionOr none t starts turned s f = refusedAt 3 (t .number) turned starts (t .values) (t .effects)
-criterionOr (some c) t starts turned s f = record { answer = allOf turned s f c; starts = starts; values = t .values; effects = t .effects }
+criterionOr none t starts adjusted s f = refusedAt 3 (t .number) adjusted starts (t .values) (t .effects)
+criterionOr (some c) t starts adjusted s f = record { answer = allOf adjusted s f c; starts = starts; values = t .values; effects = t .effects }
 
 unfoldable pub withCriterion : Problem → Bool → ℕ → Bool → Found → Fitted → List Float → List Float → Refitted
-withCriterion q reml nAgq turned s f values b =
+withCriterion q reml nAgq adjusted s f values b =
     let t = Criterion.callOf (atTheta q (s .theta)) rounds reml nAgq values b in
-    criterionOr (t .profile) t (q .starts) turned s f
+    criterionOr (t .profile) t (q .starts) adjusted s f
 
 -- ---- the fit at theta
 
 abbrev pub fitOr : Option Fitted → Fit.Told → Problem → Bool → ℕ → Bool → Found → Refitted
-fitOr none t q reml nAgq turned s = refusedAt 3 (t .number) turned (q .starts) (t .values) (t .effects)
-fitOr (some f) t q reml nAgq turned s = withCriterion q reml nAgq turned s f (t .values) (t .effects)
+fitOr none t q reml nAgq adjusted s = refusedAt 3 (t .number) adjusted (q .starts) (t .values) (t .effects)
+fitOr (some f) t q reml nAgq adjusted s = withCriterion q reml nAgq adjusted s f (t .values) (t .effects)
 
 unfoldable pub withFit : Problem → Bool → ℕ → Bool → Found → List Float → List Float → Refitted
-withFit q reml nAgq turned s values b =
+withFit q reml nAgq adjusted s values b =
     let t = Fit.callOf (atTheta q (s .theta)) rounds values b in
-    fitOr (t .fitted) t q reml nAgq turned s
+    fitOr (t .fitted) t q reml nAgq adjusted s
 
 -- ---- the search, which writes no list
 
 abbrev pub searchOr : Option Found → ℕ → Problem → Bool → ℕ → Bool → List Float → List Float → Refitted
-searchOr none n q reml nAgq turned values b = refusedAt 2 n turned (q .starts) values b
-searchOr (some s) n q reml nAgq turned values b = withFit q reml nAgq turned s values b
+searchOr none n q reml nAgq adjusted values b = refusedAt 2 n adjusted (q .starts) values b
+searchOr (some s) n q reml nAgq adjusted values b = withFit q reml nAgq adjusted s values b
 
 unfoldable pub withSearch : Problem → Bool → ℕ → Bool → List Float → List Float → Refitted
-withSearch q reml nAgq turned values b =
+withSearch q reml nAgq adjusted values b =
     let t = Search.callOf q rounds reml nAgq narrowings in
-    searchOr (t .found) (t .number) q reml nAgq turned values b
+    searchOr (t .found) (t .number) q reml nAgq adjusted values b
 
 -- ---- the start values
 
--- curve 1's scal is negative
-unfoldable pub isTurned : ℕ → List Float → Bool
-isTurned code starts = eqb code 1 && (ltb 2 (length starts) && lt (getD starts 2 nan) zero)
+-- curve 1's scal is negative, or curve 2's lrc, the rate ln 2 / xmid, positive
+unfoldable pub isAdjusted : ℕ → List Float → Bool
+isAdjusted code starts =
+    let x = getD starts 2 nan in
+    ltb 2 (length starts) && cond (eqb code 1) (lt x zero) (eqb code 2 && lt zero x)
 
--- then its sign is turned
-unfoldable pub turnedOf : ℕ → List Float → List Float
-turnedOf code starts = cond (isTurned code starts) (set starts 2 (neg (getD starts 2 nan))) starts
+-- then scal's sign is turned, and lrc is the rate's logarithm
+unfoldable pub adjustedOf : ℕ → List Float → List Float
+adjustedOf code starts =
+    let x = getD starts 2 nan in
+    cond (isAdjusted code starts) (set starts 2 (cond (eqb code 1) (neg x) (lnOf x))) starts
 
 -- there are no bounds: every lower bound is minus infinity, every upper one infinity
 abbrev pub unbounded : ℕ → List Float → List Float → List ℕ → ℕ → List ℕ → List Float → Problem
@@ -127,17 +132,19 @@ unbounded code doses grams group groups indices starts =
     problemOf code doses grams group groups indices starts lower upper lower upper []
 
 -- a canister for each effect that is to be written
-unfoldable pub withStarts : ℕ → List Float → List Float → List ℕ → List ℕ → Bool → ℕ → List Float → List Float → List Float → Refitted
-withStarts code doses grams group indices reml nAgq starts values b =
-    withSearch (unbounded code doses grams group (length b) indices (turnedOf code starts)) reml nAgq (isTurned code starts) values b
+unfoldable pub withStarts : ℕ → List Float → List Float → List ℕ → List ℕ → Bool → ℕ → Bool → List Float → List Float → List Float → Refitted
+withStarts code doses grams group indices reml nAgq adjusted starts values b =
+    withSearch (unbounded code doses grams group (length b) indices starts) reml nAgq adjusted values b
 
 abbrev pub startOr : Start.Answer → ℕ → List Float → List Float → List ℕ → List ℕ → Bool → ℕ → List Float → List Float → List Float → Refitted
 startOr (Started.Refused n) code doses grams group indices reml nAgq starts values b = refusedAt 1 n false starts values b
-startOr Started.Done code doses grams group indices reml nAgq starts values b = withStarts code doses grams group indices reml nAgq starts values b
+startOr Started.Done code doses grams group indices reml nAgq starts values b =
+    withStarts code doses grams group indices reml nAgq (isAdjusted code starts) (adjustedOf code starts) values b
 
--- ---- all of it; the self-start leaves the start values as they were where it is refused
+-- ---- all of it: from given start values, which are taken as they are, or from the self-start's, which leaves the list as it was where it is refused
 
-unfoldable pub refitOf : ℕ → List Float → List Float → List ℕ → List ℕ → Bool → ℕ → List Float → List Float → List Float → Refitted
-refitOf code doses grams group indices reml nAgq starts values b =
+unfoldable pub refitOf : ℕ → List Float → List Float → List ℕ → List ℕ → Bool → ℕ → Bool → List Float → List Float → List Float → Refitted
+refitOf code doses grams group indices reml nAgq given starts values b =
     let n = faultOf code (length doses) (length grams) (length starts) in
-    startOr (answerOf n) code doses grams group indices reml nAgq (writtenOf code doses grams starts) values b
+    cond given (withStarts code doses grams group indices reml nAgq false starts values b)
+    (startOr (answerOf n) code doses grams group indices reml nAgq (writtenOf code doses grams starts) values b)

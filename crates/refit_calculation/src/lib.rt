@@ -2,11 +2,12 @@
 use curves::mean_fn::n_params;
 use fit::Fitted;
 use golden::Found;
+use math::ln::ln;
 ghost use mathlib.Core.Path.{_≡_};
 ghost use mathlib.Core.List.{[]};
 ghost use lib.ListN.{length};
 ghost use Rattle.problem.specs.Problem.{problemOf};
-ghost use Rattle.refit_calculation.specs.Refit.{Refitted, nothingBut, withCriterion, withFit, withSearch, isTurned, turnedOf, withStarts, refitOf};
+ghost use Rattle.refit_calculation.specs.Refit.{Refitted, nothingBut, withCriterion, withFit, withSearch, isAdjusted, adjustedOf, withStarts, refitOf};
 
 // The rounds and narrowings that are allowed; `help` tells them.
 pub const ROUNDS: u64 = 200;
@@ -14,10 +15,11 @@ pub const ROUNDS: u64 = 200;
 pub const NARROWINGS: u64 = 60;
 
 // What was found. Stage 0: all of it; 1 or 2 or 3: the start, the search or the fit was refused by this number.
+// `adjusted`: the self-start's third value was not taken as it is.
 pub struct Answer {
     pub stage: u64,
     pub refused: u64,
-    pub turned: bool,
+    pub adjusted: bool,
     pub theta: f64,
     pub criterion: f64,
     pub narrowings: u64,
@@ -30,13 +32,13 @@ pub struct Answer {
     pub trials: usize,
 }
 
-fn nothing(stage: u64, number: u64, turned: bool) -> Answer
-    ensures { λ r. ⌜ r ≡ nothingBut stage number turned ⌝ }
+fn nothing(stage: u64, number: u64, adjusted: bool) -> Answer
+    ensures { λ r. ⌜ r ≡ nothingBut stage number adjusted ⌝ }
 {
     Answer {
         stage: stage,
         refused: number,
-        turned: turned,
+        adjusted: adjusted,
         theta: 0.0,
         criterion: 0.0,
         narrowings: 0,
@@ -50,20 +52,27 @@ fn nothing(stage: u64, number: u64, turned: bool) -> Answer
     }
 }
 
-// For readings that rise the self-start of curve 1 answers a negative scal, from which no fit goes on:
-// a trial puts a negative scal at 1e-6. Here its sign is turned, and the report says so.
-fn turn_scal(code: u64, starts: &mut [f64]) -> bool
-    ensures { λ r. ⌜ (r ≡ isTurned code (now (starts .entry))) × (now (starts .exit) ≡ turnedOf code (now (starts .entry))) ⌝ }
+// Two of the self-start's values lead a fit nowhere, and the report says that they were changed. Curve 1's scal is
+// negative for readings that rise, and a trial puts a negative scal at 1e-6: its sign is turned. Curve 2's lrc is the
+// rate ln 2 / xmid, while the curve takes the rate's logarithm: that is put in its place.
+fn adjust(code: u64, starts: &mut [f64]) -> bool
+    ensures { λ r. ⌜ (r ≡ isAdjusted code (now (starts .entry))) × (now (starts .exit) ≡ adjustedOf code (now (starts .entry))) ⌝ }
 {
-    if code != 1 {
-        return false;
-    }
     if starts.len() < 3 {
         return false;
     }
-    if starts[2] < 0.0 {
-        starts[2] = -starts[2];
-        return true;
+    if code == 1 {
+        if starts[2] < 0.0 {
+            starts[2] = -starts[2];
+            return true;
+        }
+        return false;
+    }
+    if code == 2 {
+        if starts[2] > 0.0 {
+            starts[2] = ln(starts[2]);
+            return true;
+        }
     }
     false
 }
@@ -83,7 +92,7 @@ fn with_criterion(
     upper: &[f64],
     values: &mut [f64],
     b: &mut [f64],
-    turned: bool,
+    adjusted: bool,
     found: Found,
     fitted: Fitted,
 ) -> Answer
@@ -91,7 +100,7 @@ fn with_criterion(
         withCriterion
         (problemOf code (now (doses .entry)) (now (grams .entry)) (now (group .entry)) groups (now (effects .entry))
         (now (starts .entry)) (now (lower .entry)) (now (upper .entry)) (now (lower .entry)) (now (upper .entry)) [])
-        reml «n_agq» turned found fitted (now (values .entry)) (now (b .entry))
+        reml «n_agq» adjusted found fitted (now (values .entry)) (now (b .entry))
         ≡ record {
           answer = r;
           starts = now (starts .entry);
@@ -120,11 +129,11 @@ fn with_criterion(
         b,
     );
     match answer {
-        criterion::Answer::Refused(n) => nothing(3, n, turned),
+        criterion::Answer::Refused(n) => nothing(3, n, adjusted),
         criterion::Answer::Done(profile) => Answer {
             stage: 0,
             refused: 0,
-            turned: turned,
+            adjusted: adjusted,
             theta: found.theta,
             criterion: found.criterion,
             narrowings: found.narrowings,
@@ -154,14 +163,14 @@ fn at_theta(
     upper: &[f64],
     values: &mut [f64],
     b: &mut [f64],
-    turned: bool,
+    adjusted: bool,
     found: Found,
 ) -> Answer
     ensures { λ r. ⌜
         withFit
         (problemOf code (now (doses .entry)) (now (grams .entry)) (now (group .entry)) groups (now (effects .entry))
         (now (starts .entry)) (now (lower .entry)) (now (upper .entry)) (now (lower .entry)) (now (upper .entry)) [])
-        reml «n_agq» turned found (now (values .entry)) (now (b .entry))
+        reml «n_agq» adjusted found (now (values .entry)) (now (b .entry))
         ≡ record {
           answer = r;
           starts = now (starts .entry);
@@ -188,7 +197,7 @@ fn at_theta(
         b,
     );
     match answer {
-        fit::Answer::Refused(n) => nothing(3, n, turned),
+        fit::Answer::Refused(n) => nothing(3, n, adjusted),
         fit::Answer::Done(fitted) => with_criterion(
             code,
             doses,
@@ -203,7 +212,7 @@ fn at_theta(
             upper,
             values,
             b,
-            turned,
+            adjusted,
             found,
             fitted,
         ),
@@ -225,13 +234,13 @@ fn from_starts(
     upper: &[f64],
     values: &mut [f64],
     b: &mut [f64],
-    turned: bool,
+    adjusted: bool,
 ) -> Answer
     ensures { λ r. ⌜
         withSearch
         (problemOf code (now (doses .entry)) (now (grams .entry)) (now (group .entry)) groups (now (effects .entry))
         (now (starts .entry)) (now (lower .entry)) (now (upper .entry)) (now (lower .entry)) (now (upper .entry)) [])
-        reml «n_agq» turned (now (values .entry)) (now (b .entry))
+        reml «n_agq» adjusted (now (values .entry)) (now (b .entry))
         ≡ record {
           answer = r;
           starts = now (starts .entry);
@@ -257,7 +266,7 @@ fn from_starts(
         NARROWINGS,
     );
     match answer {
-        golden::Answer::Refused(n) => nothing(2, n, turned),
+        golden::Answer::Refused(n) => nothing(2, n, adjusted),
         golden::Answer::Done(found) => at_theta(
             code,
             doses,
@@ -272,13 +281,13 @@ fn from_starts(
             upper,
             values,
             b,
-            turned,
+            adjusted,
             found,
         ),
     }
 }
 
-// From the self-start's values: scal's sign, no bounds, the search.
+// From start values: no bounds, the search.
 fn started(
     code: u64,
     doses: &[f64],
@@ -287,21 +296,21 @@ fn started(
     effects: &[usize],
     reml: bool,
     n_agq: u64,
-    starts: &mut [f64],
+    starts: &[f64],
     values: &mut [f64],
     b: &mut [f64],
+    adjusted: bool,
 ) -> Answer
     ensures { λ r. ⌜
         withStarts code (now (doses .entry)) (now (grams .entry)) (now (group .entry)) (now (effects .entry)) reml «n_agq»
-        (now (starts .entry)) (now (values .entry)) (now (b .entry))
+        adjusted (now (starts .entry)) (now (values .entry)) (now (b .entry))
         ≡ record {
           answer = r;
-          starts = now (starts .exit);
+          starts = now (starts .entry);
           values = now (values .exit);
           effects = now (b .exit);
         } ⌝ }
 {
-    let turned = turn_scal(code, starts);
     let big = math::infinity();
     let lower = [-big; 4];
     let upper = [big; 4];
@@ -320,11 +329,11 @@ fn started(
         &upper[0..p],
         values,
         b,
-        turned,
+        adjusted,
     )
 }
 
-// Writes the start values, the curve's values and one effect for each canister.
+// Writes the curve's values and one effect for each canister, and, where they are not given, the start values.
 pub fn refit(
     code: u64,
     doses: &[f64],
@@ -333,13 +342,14 @@ pub fn refit(
     effects: &[usize],
     reml: bool,
     n_agq: u64,
+    given: bool,
     starts: &mut [f64],
     values: &mut [f64],
     b: &mut [f64],
 ) -> Answer
     ensures { λ r. ⌜
         refitOf code (now (doses .entry)) (now (grams .entry)) (now (group .entry)) (now (effects .entry)) reml «n_agq»
-        (now (starts .entry)) (now (values .entry)) (now (b .entry))
+        given (now (starts .entry)) (now (values .entry)) (now (b .entry))
         ≡ record {
           answer = r;
           starts = now (starts .exit);
@@ -347,10 +357,8 @@ pub fn refit(
           effects = now (b .exit);
         } ⌝ }
 {
-    let answer = self_start::self_start(code, doses, grams, starts);
-    match answer {
-        self_start::Answer::Refused(n) => nothing(1, n, false),
-        self_start::Answer::Done => started(
+    if given {
+        return started(
             code,
             doses,
             grams,
@@ -361,6 +369,27 @@ pub fn refit(
             starts,
             values,
             b,
-        ),
+            false,
+        );
+    }
+    let answer = self_start::self_start(code, doses, grams, starts);
+    match answer {
+        self_start::Answer::Refused(n) => nothing(1, n, false),
+        self_start::Answer::Done => {
+            let adjusted = adjust(code, starts);
+            started(
+                code,
+                doses,
+                grams,
+                group,
+                effects,
+                reml,
+                n_agq,
+                starts,
+                values,
+                b,
+                adjusted,
+            )
+        }
     }
 }

@@ -6,9 +6,6 @@ use borrow.Author.Needs.{needs}
 use Rattle.refit_calculation.proofs.started.Statement.{statement}
 use Rattle.refit_calculation.proofs.started.Tie as tie
 
-turn-scal-requires : tie.Need-turn-scal-requires
-turn-scal-requires c κs = search needs
-
 infinity-requires : tie.Need-infinity-requires
 infinity-requires c κs = search needs
 
@@ -22,7 +19,7 @@ part-from-starts-start : tie.Need-part-from-starts-start
 part-from-starts-start c = search needs
 
 part-from-starts-end : tie.Need-part-from-starts-end
-part-from-starts-end c = omega (arith, params-few (c .before .before .before .before .before .before .before .before .before .before .before .before .before .before .before .args .code) .1, c .before .before .n-params .ensures)
+part-from-starts-end c = omega (arith, params-few (c .before .before .before .before .before .before .before .before .before .before .args .code) .1, c .before .n-params .ensures)
 
 sub-from-starts-2 : tie.Need-sub-from-starts-2
 sub-from-starts-2 c = search needs
@@ -31,7 +28,7 @@ part-from-starts-start-2 : tie.Need-part-from-starts-start-2
 part-from-starts-start-2 c = search needs
 
 part-from-starts-end-2 : tie.Need-part-from-starts-end-2
-part-from-starts-end-2 c = omega (arith, params-few (c .before .before .before .before .before .before .before .before .before .before .before .before .before .before .before .before .before .args .code) .1, c .before .before .before .before .n-params .ensures)
+part-from-starts-end-2 c = omega (arith, params-few (c .before .before .before .before .before .before .before .before .before .before .before .before .args .code) .1, c .before .before .before .n-params .ensures)
 
 from-starts-requires : tie.Need-from-starts-requires
 from-starts-requires c κs = search needs
@@ -42,19 +39,13 @@ same-length c = search needs
 same-length-2 : tie.Need-same-length-2
 same-length-2 c = search needs
 
-same-length-3 : tie.Need-same-length-3
-same-length-3 c = search needs
-
 returns : tie.Need-returns
-returns c =
-    let t = c .before .before .before .before .before .before .before .before .before .before .before .before .before .before .before .before .turn-scal in
-    as-started _ _ _ _ _ _ _ _ _ _ _ _ _ _ _ (t .ensures .0) (t .ensures .1) (c .before .before .before .before .before .before .before .before .before .before .before .before .before .infinity .ensures) (c .before .before .before .before .before .before .before .before .before .before .before .before .n-params .ensures) (c .before .before .before .before .from-starts .ensures)
+returns c = as-started _ _ _ _ _ _ _ _ _ _ _ _ _ _ (c .before .before .before .before .before .before .before .before .before .before .before .before .infinity .ensures) (c .before .before .before .before .before .before .before .before .before .before .before .n-params .ensures) (c .before .before .before .before .from-starts .ensures)
 
 pub started-spec : {M : Type 1} → statement M
 started-spec =
     tie.close
     (tie.spec
-    turn-scal-requires
     infinity-requires
     n-params-requires
     sub-from-starts
@@ -66,5 +57,4 @@ started-spec =
     from-starts-requires
     same-length
     same-length-2
-    same-length-3
     returns)
