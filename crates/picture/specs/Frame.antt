@@ -34,10 +34,15 @@ ticksText a across = each (tickText a across) (a .count + 1)
 
 -- ---- the frame: the title, the axes and what stands at them, and what that is in the example
 
-unfoldable pub titleText : ℕ → List ℕ
-titleText code =
+-- by the number of the report's first warning, 0 where there is none
+unfoldable pub titleText : ℕ → ℕ → List ℕ
+titleText code warning =
     bytes "<text x=\"70\" y=\"30\" font-size=\"16\" font-weight=\"bold\">"
-    ++ (wordOf code (bytes "\nSSlogis\nSSasymp\nSSmicmen\nSSfpl\n") ++ bytes ": what was weighed, and each canister's fitted curve</text>\n")
+    ++ (wordOf code (bytes "\nSSlogis\nSSasymp\nSSmicmen\nSSfpl\n")
+    ++ (wordOf warning
+    (bytes
+    ": what was weighed, and each canister's fitted curve\n: <tspan fill=\"#b00020\">DO NOT USE THIS FIT: a value did not move from its start</tspan>\n: <tspan fill=\"#b00020\">DO NOT USE THIS FIT: the search over theta did not converge</tspan>\n: <tspan fill=\"#b00020\">DO NOT USE THIS FIT: it did not converge</tspan>\n: <tspan fill=\"#b00020\">DO NOT USE THIS FIT: the curve is a step</tspan>\n: <tspan fill=\"#b00020\">DO NOT USE THIS FIT: it explains nothing</tspan>\n: <tspan fill=\"#b00020\">DO NOT USE THIS FIT: too few readings</tspan>\n: what was weighed, and each canister's fitted curve (theta at the lower end of its range)\n: what was weighed, and each canister's fitted curve (theta at the upper end of its range)\n: what was weighed, and the fitted curve (one canister only: theta means nothing)\n: what was weighed, and each canister's fitted curve (quadrature: theta as in the published Rust)\n")
+    ++ bytes "</text>\n"))
 
 unfoldable pub axesText : Axis → Axis → List ℕ
 axesText h v =
@@ -54,5 +59,5 @@ labelsText example =
     (bytes " (Orange: the trunk's circumference in mm)")
     ++ (noted (bytes "</text>\n<text x=\"694\" y=\"40\">canister") example (bytes " (Orange: tree)") ++ bytes "</text>\n"))
 
-unfoldable pub frameText : ℕ → Axis → Axis → Bool → List ℕ
-frameText code h v example = titleText code ++ (axesText h v ++ labelsText example)
+unfoldable pub frameText : ℕ → ℕ → Axis → Axis → Bool → List ℕ
+frameText code warning h v example = titleText code warning ++ (axesText h v ++ labelsText example)

@@ -67,8 +67,9 @@ fn axes(out: &mut [u8], p: Place, h: Axis, v: Axis) -> Place
     put(out, p, b"<path stroke=\"#222222\" d=\"M70 50V450\"/>\n")
 }
 
-fn title(out: &mut [u8], p: Place, code: u64) -> Place
-    ensures { λ r. ⌜ (now (out .exit), r) ≡ wrote (now (out .entry)) p (titleText code) ⌝ }
+// The curve's name, and then what is shown, or why it is not to be used, by the number of the report's first warning.
+fn title(out: &mut [u8], p: Place, code: u64, warning: u64) -> Place
+    ensures { λ r. ⌜ (now (out .exit), r) ≡ wrote (now (out .entry)) p (titleText code warning) ⌝ }
 {
     let p = put(
         out,
@@ -76,11 +77,13 @@ fn title(out: &mut [u8], p: Place, code: u64) -> Place
         b"<text x=\"70\" y=\"30\" font-size=\"16\" font-weight=\"bold\">",
     );
     let p = word(out, p, b"\nSSlogis\nSSasymp\nSSmicmen\nSSfpl\n", code);
-    put(
+    let p = word(
         out,
         p,
-        b": what was weighed, and each canister's fitted curve</text>\n",
-    )
+        b": what was weighed, and each canister's fitted curve\n: <tspan fill=\"#b00020\">DO NOT USE THIS FIT: a value did not move from its start</tspan>\n: <tspan fill=\"#b00020\">DO NOT USE THIS FIT: the search over theta did not converge</tspan>\n: <tspan fill=\"#b00020\">DO NOT USE THIS FIT: it did not converge</tspan>\n: <tspan fill=\"#b00020\">DO NOT USE THIS FIT: the curve is a step</tspan>\n: <tspan fill=\"#b00020\">DO NOT USE THIS FIT: it explains nothing</tspan>\n: <tspan fill=\"#b00020\">DO NOT USE THIS FIT: too few readings</tspan>\n: what was weighed, and each canister's fitted curve (theta at the lower end of its range)\n: what was weighed, and each canister's fitted curve (theta at the upper end of its range)\n: what was weighed, and the fitted curve (one canister only: theta means nothing)\n: what was weighed, and each canister's fitted curve (quadrature: theta as in the published Rust)\n",
+        warning,
+    );
+    put(out, p, b"</text>\n")
 }
 
 // A label, and what it is in the example.
@@ -121,10 +124,18 @@ fn labels(out: &mut [u8], p: Place, example: bool) -> Place
     put(out, p, b"</text>\n")
 }
 
-pub fn frame(out: &mut [u8], p: Place, code: u64, h: Axis, v: Axis, example: bool) -> Place
-    ensures { λ r. ⌜ (now (out .exit), r) ≡ wrote (now (out .entry)) p (frameText code h v example) ⌝ }
+pub fn frame(
+    out: &mut [u8],
+    p: Place,
+    code: u64,
+    warning: u64,
+    h: Axis,
+    v: Axis,
+    example: bool,
+) -> Place
+    ensures { λ r. ⌜ (now (out .exit), r) ≡ wrote (now (out .entry)) p (frameText code warning h v example) ⌝ }
 {
-    let p = title(out, p, code);
+    let p = title(out, p, code, warning);
     let p = axes(out, p, h, v);
     labels(out, p, example)
 }

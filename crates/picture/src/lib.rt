@@ -100,19 +100,20 @@ fn drawn(
     values: &[f64],
     b: &[f64],
     example: bool,
+    warning: u64,
     r: Range,
     h: Axis,
     v: Axis,
 ) -> Place
     ensures { λ q. ⌜ (now (out .exit), q) ≡ wrote (now (out .entry)) start
-        (drawnText code place (now (text .entry)) (now (doses .entry)) (now (grams .entry)) (now (group .entry)) (now (names .entry)) (now (values .entry)) (now (b .entry)) example r h v) ⌝ }
+        (drawnText code place (now (text .entry)) (now (doses .entry)) (now (grams .entry)) (now (group .entry)) (now (names .entry)) (now (values .entry)) (now (b .entry)) example warning r h v) ⌝ }
 {
     let p = put(
         out,
         figures::begin(),
         b"<svg xmlns=\"http://www.w3.org/2000/svg\" width=\"960\" height=\"510\" viewBox=\"0 0 960 510\"\n font-family=\"Helvetica, Arial, sans-serif\" font-size=\"12\" fill=\"#222222\">\n<rect width=\"960\" height=\"510\" fill=\"white\"/>\n",
     );
-    let p = frame::frame(out, p, code, h, v, example);
+    let p = frame::frame(out, p, code, warning, h, v, example);
     let p = canisters(
         out,
         p,
@@ -145,9 +146,10 @@ pub fn draw(
     values: &[f64],
     b: &[f64],
     example: bool,
+    warning: u64,
 ) -> Place
     ensures { λ q. ⌜ (now (out .exit), q) ≡ wrote (now (out .entry)) start
-        (pictureText code place (now (text .entry)) (now (doses .entry)) (now (grams .entry)) (now (group .entry)) (now (names .entry)) (now (values .entry)) (now (b .entry)) example) ⌝ }
+        (pictureText code place (now (text .entry)) (now (doses .entry)) (now (grams .entry)) (now (group .entry)) (now (names .entry)) (now (values .entry)) (now (b .entry)) example warning) ⌝ }
 {
     let r = list_range(doses);
     let h = axis_of(r);
@@ -170,6 +172,7 @@ pub fn draw(
         values,
         b,
         example,
+        warning,
         r,
         h,
         v,

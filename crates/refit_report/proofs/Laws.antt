@@ -45,22 +45,23 @@ unfolding nParamsOf
 few-values code = at-most (eqb code 3) (eqb code 4)
 
 -- what a run without a fault hands over
-module _ (o : Options) (example : Bool) (text : List ℕ) (n groups : ℕ) (doses grams : List Float) (numbers names out svg : List ℕ) where
-  abbrev answered : List ℕ → List Float → List Float → Ran
-  answered group values b = answerOf o example text (take n doses) (take n grams) group names values values b out svg
+module _ (o : Options) (example : Bool) (text : List ℕ) (n groups : ℕ) (doses grams : List Float) (numbers names : List ℕ) (given : List Float) (out svg : List ℕ) where
+  abbrev answered : List ℕ → ℕ → List Float → List Float → Ran
+  answered group k values b = answerOf o example text (take n doses) (take n grams) group names (take k given) values b out svg
 
   pub as-run : (d group : List ℕ) (f k : ℕ) (r : Ran)
       → f ≡ faultOf n groups (length doses) (length grams) (length numbers) → f ≡ 0 → n ≤ length numbers → groups ≤ 32
       → k ≡ nParamsOf (o .code) → group ≡ paste d 0 numbers n
-      → answered (take n group) (take k (replicate 4 Basic.zero)) (take groups (replicate 32 Basic.zero)) ≡ r
-      → runOf o example text n groups doses grams numbers names out svg ≡ r
+      → answered (take n group) k (take k (replicate 4 Basic.zero)) (take groups (replicate 32 Basic.zero)) ≡ r
+      → runOf o example text n groups doses grams numbers names given out svg ≡ r
   unfolding runOf
   as-run d group f k r e z h g v p a =
-      let values = ap (λ (j : ℕ). take j (replicate 4 Basic.zero)) v ∙ take-replicate (nParamsOf (o .code)) 4 Basic.zero (few-values (o .code)) in
+      let values = take-replicate (nParamsOf (o .code)) 4 Basic.zero (few-values (o .code)) in
       let numbers-are = ap (λ (l : List ℕ). take n l) p ∙ take-pasted d numbers n h in
       rw (← e, eq-eqb f 0 z)
       (sym
-      (ap (λ (l : List ℕ). answered l (take k (replicate 4 Basic.zero)) (take groups (replicate 32 Basic.zero))) numbers-are
-      ∙ ap (λ (l : List Float). answered (take n numbers) l (take groups (replicate 32 Basic.zero))) values
-      ∙ ap (λ (l : List Float). answered (take n numbers) (replicate (nParamsOf (o .code)) Basic.zero) l) (take-replicate groups 32 Basic.zero g))
+      (ap (λ (l : List ℕ). answered l k (take k (replicate 4 Basic.zero)) (take groups (replicate 32 Basic.zero))) numbers-are
+      ∙ ap (λ (j : ℕ). answered (take n numbers) j (take j (replicate 4 Basic.zero)) (take groups (replicate 32 Basic.zero))) v
+      ∙ ap (λ (l : List Float). answered (take n numbers) (nParamsOf (o .code)) l (take groups (replicate 32 Basic.zero))) values
+      ∙ ap (λ (l : List Float). answered (take n numbers) (nParamsOf (o .code)) (replicate (nParamsOf (o .code)) Basic.zero) l) (take-replicate groups 32 Basic.zero g))
       ∙ a)

@@ -1,6 +1,6 @@
 -- A run: the refit of readings, its report, and the picture if one is asked for. Definitions only.
 use Prim.Native.Nat.{ℕ, _≤_}
-use mathlib.Core.Bool.{Bool, cond}
+use mathlib.Core.Bool.{Bool, not, cond}
 use mathlib.Core.List.{List, [], _∷_}
 use lib.Dec.{eqb, ltb}
 use lib.Ieee.{Float}
@@ -13,6 +13,8 @@ use Rattle.picture.specs.Picture.{pictureText}
 use Rattle.refit_calculation.specs.Refit.{Refitted, refitOf}
 use Rattle.refit_options.specs.declared.options.Options.{Options}
 use Rattle.refit_report.specs.declared.Outcome.{Outcome}
+use Rattle.refit_warnings.specs.Warnings.{warningsOf}
+use Rattle.refit_warnings.specs.Told.{firstOf}
 use Rattle.report.specs.Report.{reportText}
 
 -- what is answered, and the two lent buffers as they are left
@@ -42,28 +44,29 @@ pub record InReach (n groups doses grams numbers : ℕ) : Type 0 where
   pub canisters : groups ≤ 32
 
 -- the picture, where one is asked for and there is a fit
-unfoldable pub picturedOf : Options → Bool → ℕ → List ℕ → List Float → List Float → List ℕ → List ℕ → List Float → List Float → List ℕ → List ℕ × Place
-picturedOf o example stage text doses grams group names values b svg =
+unfoldable pub picturedOf : Options → Bool → ℕ → ℕ → List ℕ → List Float → List Float → List ℕ → List ℕ → List Float → List Float → List ℕ → List ℕ × Place
+picturedOf o example stage warning text doses grams group names values b svg =
     cond (eqb (o .svg) 0) (svg, start)
-    (cond (eqb stage 0) (wrote svg start (pictureText (o .code) (o .place) text doses grams group names values b example)) (svg, start))
+    (cond (eqb stage 0) (wrote svg start (pictureText (o .code) (o .place) text doses grams group names values b example warning)) (svg, start))
 
 -- the report and the picture of a refit
 abbrev pub toldOf : Options → Bool → List ℕ → List Float → List Float → List ℕ → List ℕ → Refitted → List ℕ → List ℕ → Ran
 toldOf o example text doses grams group names t out svg =
-    let w = wrote out start (reportText o (t .answer) example text doses grams group names (t .starts) (t .values) (t .effects)) in
-    let d = picturedOf o example (t .answer .stage) text doses grams group names (t .values) (t .effects) svg in
-    record { outcome = record { fault = 0; report = w .1; picture = d .1 }; out = w .0; svg = d .0 }
+    let w = warningsOf (o .code) (o .«n_agq») (t .answer) doses grams group (length (t .effects)) (t .starts) (t .values) in
+    let p = wrote out start (reportText o (t .answer) example text doses grams group names (t .starts) (t .values) (t .effects) w) in
+    let d = picturedOf o example (t .answer .stage) (firstOf w) text doses grams group names (t .values) (t .effects) svg in
+    record { outcome = record { fault = 0; report = p .1; picture = d .1 }; out = p .0; svg = d .0 }
 
 unfoldable pub answerOf : Options → Bool → List ℕ → List Float → List Float → List ℕ → List ℕ → List Float → List Float → List Float → List ℕ → List ℕ → Ran
 answerOf o example text doses grams group names starts values b out svg =
     toldOf o example text doses grams group names
-    (refitOf (o .code) doses grams group (o .place ∷ []) (o .reml) (o .«n_agq») starts values b) out svg
+    (refitOf (o .code) doses grams group (o .place ∷ []) (o .reml) (o .«n_agq») (not (eqb (o .start) 0)) starts values b) out svg
 
--- the first n readings; a fault writes nothing
-unfoldable pub runOf : Options → Bool → List ℕ → ℕ → ℕ → List Float → List Float → List ℕ → List ℕ → List ℕ → List ℕ → Ran
-runOf o example text n groups doses grams numbers names out svg =
+-- the first n readings, and of the start values those that are given, as many as the curve has; a fault writes nothing
+unfoldable pub runOf : Options → Bool → List ℕ → ℕ → ℕ → List Float → List Float → List ℕ → List ℕ → List Float → List ℕ → List ℕ → Ran
+runOf o example text n groups doses grams numbers names starts out svg =
     let zeros = replicate (nParamsOf (o .code)) zero in
     let fault = faultOf n groups (length doses) (length grams) (length numbers) in
     cond (eqb fault 0)
-    (answerOf o example text (take n doses) (take n grams) (take n numbers) names zeros zeros (replicate groups zero) out svg)
+    (answerOf o example text (take n doses) (take n grams) (take n numbers) names (take (nParamsOf (o .code)) starts) zeros (replicate groups zero) out svg)
     (record { outcome = refusedWith fault; out = out; svg = svg })

@@ -3,14 +3,17 @@
 // one is asked for, into lent buffers.
 use curves::mean_fn::n_params;
 use figures::Place;
+use refit_calculation::Answer;
 use refit_calculation::refit;
 use refit_options::options::Options;
+use refit_warnings::told::first;
+use refit_warnings::warnings;
 use report::report;
 ghost use mathlib.Core.Path.{_≡_};
 ghost use Prim.Native.Nat.{_≤_};
 ghost use lib.ListN.{length};
 ghost use lib.Seq.{paste};
-ghost use Rattle.refit_report.specs.Run.{Ran, refusedWith, picturedOf, answerOf, faultOf, InReach, runOf};
+ghost use Rattle.refit_report.specs.Run.{Ran, refusedWith, picturedOf, toldOf, answerOf, faultOf, InReach, runOf};
 
 // A fault, or else how far the report and the picture were written.
 pub struct Outcome {
@@ -46,6 +49,7 @@ fn pictured(
     o: Options,
     example: bool,
     stage: u64,
+    warning: u64,
     text: &[u8],
     doses: &[f64],
     grams: &[f64],
@@ -57,7 +61,7 @@ fn pictured(
 ) -> Place
     ensures { λ r. ⌜
         (now (svg .exit), r)
-        ≡ picturedOf o example stage (now (text .entry)) (now (doses .entry)) (now (grams .entry)) (now (group .entry))
+        ≡ picturedOf o example stage warning (now (text .entry)) (now (doses .entry)) (now (grams .entry)) (now (group .entry))
         (now (names .entry)) (now (values .entry)) (now (b .entry)) (now (svg .entry)) ⌝ }
 {
     if o.svg == 0 {
@@ -78,10 +82,80 @@ fn pictured(
         values,
         b,
         example,
+        warning,
     )
 }
 
-// The refit of readings that were read, its report, and the picture.
+// The report and the picture of a refit.
+fn told(
+    o: Options,
+    example: bool,
+    a: Answer,
+    text: &[u8],
+    doses: &[f64],
+    grams: &[f64],
+    group: &[usize],
+    names: &[u64],
+    starts: &[f64],
+    values: &[f64],
+    b: &[f64],
+    out: &mut [u8],
+    svg: &mut [u8],
+) -> Outcome
+    ensures { λ r. ⌜
+        toldOf o example (now (text .entry)) (now (doses .entry)) (now (grams .entry)) (now (group .entry)) (now (names .entry))
+        (record { answer = a; starts = now (starts .entry); values = now (values .entry); effects = now (b .entry) })
+        (now (out .entry)) (now (svg .entry))
+        ≡ record { outcome = r; out = now (out .exit); svg = now (svg .exit) } ⌝ }
+{
+    let w = warnings(
+        o.code,
+        o.n_agq,
+        a,
+        doses,
+        grams,
+        group,
+        b.len(),
+        starts,
+        values,
+    );
+    let p = report(
+        out,
+        o,
+        a,
+        example,
+        text,
+        doses,
+        grams,
+        group,
+        names,
+        starts,
+        values,
+        b,
+        &w,
+    );
+    let q = pictured(
+        o,
+        example,
+        a.stage,
+        first(&w),
+        text,
+        doses,
+        grams,
+        group,
+        names,
+        values,
+        b,
+        svg,
+    );
+    Outcome {
+        fault: 0,
+        report: p,
+        picture: q,
+    }
+}
+
+// The refit of readings that were read, and what is told of it.
 fn answer(
     o: Options,
     example: bool,
@@ -110,15 +184,15 @@ fn answer(
         &effects,
         o.reml,
         o.n_agq,
+        o.start != 0,
         starts,
         values,
         b,
     );
-    let p = report(
-        out,
+    told(
         o,
+        example,
         a,
-        example,
         text,
         doses,
         grams,
@@ -127,29 +201,13 @@ fn answer(
         starts,
         values,
         b,
-    );
-    let q = pictured(
-        o,
-        example,
-        a.stage,
-        text,
-        doses,
-        grams,
-        group,
-        names,
-        values,
-        b,
+        out,
         svg,
-    );
-    Outcome {
-        fault: 0,
-        report: p,
-        picture: q,
-    }
+    )
 }
 
-// The refit of n readings of so many canisters, told in words; the fault is 7 or 8 where the lists hold fewer or
-// there are too many.
+// The refit of n readings of so many canisters, told in words, from `given` start values where the options say that some
+// are given; the fault is 7 or 8 where the lists hold fewer or there are too many.
 pub fn run(
     o: Options,
     example: bool,
@@ -160,12 +218,13 @@ pub fn run(
     grams: &[f64],
     numbers: &[u64],
     names: &[u64],
+    given: [f64; 4],
     out: &mut [u8],
     svg: &mut [u8],
 ) -> Outcome
     ensures { λ r. ⌜
         runOf o example (now (text .entry)) n groups (now (doses .entry)) (now (grams .entry)) (now (numbers .entry))
-        (now (names .entry)) (now (out .entry)) (now (svg .entry))
+        (now (names .entry)) given (now (out .entry)) (now (svg .entry))
         ≡ record { outcome = r; out = now (out .exit); svg = now (svg .exit) } ⌝ }
 {
     let f = fault_of(n, groups, doses.len(), grams.len(), numbers.len());
@@ -174,7 +233,7 @@ pub fn run(
     }
     let k = n_params(o.code);
     let mut group = [0usize; 512];
-    let mut starts = [0.0; 4];
+    let mut starts = given;
     let mut values = [0.0; 4];
     let mut b = [0.0; 32];
     indices(numbers, &mut group, n);

@@ -1,11 +1,11 @@
 -- The report: what was asked, the start values, theta, the fit, and then the tables. Definitions only.
 use Prim.Native.Nat.{ℕ}
-use mathlib.Core.Bool.{Bool, false, cond}
+use mathlib.Core.Bool.{Bool, not, _&&_, cond}
 use mathlib.Core.List.{List, [], _∷_, _++_}
 use lib.Dec.{eqb, ltb}
-use lib.Ieee.{Float, nan, lt}
-use lib.ListN.{length, getD}
-use Rattle.math.specs.Basic.{mul, bits}
+use lib.Ieee.{Float}
+use lib.ListN.{length}
+use Rattle.math.specs.Basic.{mul}
 use Rattle.math.specs.Sqrt.{sqrtOf}
 use Rattle.figures.specs.Text.{bytes}
 use Rattle.lines.specs.Lines.{wordOf, filled}
@@ -13,6 +13,7 @@ use Rattle.refit_calculation.specs.declared.Answer.{Answer}
 use Rattle.refit_options.specs.declared.options.Options.{Options}
 use Rattle.refit_options.specs.Words.{nameText, refusalText}
 use Rattle.refit_options.specs.Words as Words
+use Rattle.refit_warnings.specs.Told.{linesText, firstOf}
 use Rattle.tables.specs.Tables.{canistersText, readingsText}
 
 -- ---- what was asked
@@ -29,20 +30,17 @@ askedText code place n groups =
 unfoldable pub quadratureText : ℕ → List ℕ
 quadratureText order =
     cond (ltb order 2) []
-    (filled
-    (bytes
-    "  quadrature    order %n. CAUTION: it follows the published Rust, whose correction moves theta far away from where\n                other programs find it. Leave it out unless you want just those numbers.\n")
-    (order ∷ []) [])
+    (filled (bytes "  quadrature    order %n\n") (order ∷ []) [])
 
-unfoldable pub beginningText : Options → Bool → ℕ → ℕ → List ℕ
-beginningText o example n groups =
+unfoldable pub beginningText : Options → Bool → ℕ → ℕ → Bool → List ℕ
+beginningText o example n groups warned =
     cond example
     (bytes
     "No file was named: this is R's data set Orange, with the age in days as the dose, the circumference\nin mm as the grams and the tree as the canister. 'refit help' tells what else can be asked.\n\n")
     []
     ++ (askedText (o .code) (o .place) n groups
     ++ (cond (o .reml) (bytes "  method        restricted maximum likelihood\n") (bytes "  method        maximum likelihood\n")
-    ++ quadratureText (o .«n_agq»)))
+    ++ (quadratureText (o .«n_agq») ++ cond warned (bytes "  *** WARNINGS: read them at the end ***\n") [])))
 
 -- ---- start values, and a curve's values
 
@@ -56,14 +54,20 @@ valuesText code values =
     (bytes "  A             %g\n  B             %g\n  xmid          %g\n  scal          %g\n"))))
     [] values
 
-unfoldable pub startsText : ℕ → Bool → List Float → List ℕ
-startsText code turned starts =
-    bytes "\nStart values, from the readings\n"
-    ++ (valuesText code starts
-    ++ cond turned
+-- which start values were not taken as the self-start answers them, and why
+unfoldable pub noteText : ℕ → List ℕ
+noteText code =
+    cond (eqb code 1)
     (bytes
     "  Note: for readings that rise the self-start answers this scal with a minus sign, from which a fit ends in a step.\n  The sign was turned here before the search.\n")
-    [])
+    (bytes
+    "  Note: the self-start answers lrc as a rate, ln 2 by the dose at half of the way, and the curve takes the rate's logarithm.\n  The logarithm was taken here before the search.\n")
+
+unfoldable pub startsText : ℕ → Bool → Bool → List Float → List ℕ
+startsText code given adjusted starts =
+    cond given (bytes "\nStart values, given by --start\n") (bytes "\nStart values, from the readings\n")
+    ++ (valuesText code starts
+    ++ cond adjusted (noteText code) [])
 
 -- ---- theta and the fit
 
@@ -71,19 +75,12 @@ startsText code turned starts =
 abbrev pub convergedText : Bool → List ℕ
 convergedText is = cond is (bytes "  converged\n") (bytes "  *** NOT CONVERGED: do not use these numbers ***\n")
 
--- theta near an end of the bracket, below 0.201 or above 19.999, may lie beyond it
 unfoldable pub thetaText : Answer → List ℕ
 thetaText r =
     filled
     (bytes "\nTheta, searched from 0.2 to 20\n  theta         %g\n  criterion     %g\n  search        %n narrowings, %n fits\n")
     (r .narrowings ∷ r .fits ∷ []) (r .theta ∷ r .criterion ∷ [])
-    ++ (convergedText (r .found)
-    ++ (cond (lt (r .theta) (bits 0x3fc9_ba5e_353f_7cee))
-    (bytes "  *** theta lies at the lower end of the searched range: the best theta may be smaller ***\n")
-    []
-    ++ cond (lt (bits 0x4033_ffbe_76c8_b439) (r .theta))
-    (bytes "  *** theta lies at the upper end of the searched range: the best theta may be larger ***\n")
-    []))
+    ++ convergedText (r .found)
 
 -- the spread of the canisters, which is theta times the root of sigma2 but for SSasymp, whose criterion is another
 unfoldable pub spreadText : ℕ → ℕ → Float → List ℕ
@@ -103,20 +100,13 @@ fitText code place r =
 
 -- ---- the curve
 
--- a trial puts a scal that would fall below 1e-6 there: what ends so, below 2e-6, is a step and no fit, though it may have converged
-unfoldable pub isStep : ℕ → List Float → Bool
-isStep code values =
-    let floor = bits 0x3ec0_c6f7_a0b5_ed8d in
-    cond (eqb code 1) (lt (getD values 2 nan) floor) (cond (eqb code 4) (lt (getD values 3 nan) floor) false)
-
 unfoldable pub curveText : ℕ → List Float → List ℕ
-curveText code values =
-    bytes "\nThe curve of all canisters\n"
-    ++ (valuesText code values
-    ++ cond (isStep code values)
-    (bytes
-    "  *** scal ended at its floor, 1e-06: this curve is a step. Do not use these numbers. Do the readings fall? ***\n")
-    [])
+curveText code values = bytes "\nThe curve of all canisters\n" ++ valuesText code values
+
+-- ---- the warnings, last, where a screen ends
+
+unfoldable pub warningsText : ℕ → List Bool → List ℕ
+warningsText code w = cond (eqb (firstOf w) 0) [] (bytes "\nWarnings\n" ++ linesText code w)
 
 -- ---- a refusal: which part of the work was refused, by which number, and what that means
 
@@ -133,19 +123,20 @@ refusedText stage number =
 
 -- ---- all of it
 
-unfoldable pub resultsText : Options → Answer → List ℕ → List Float → List Float → List ℕ → List ℕ → List Float → List Float → List ℕ
-resultsText o r text doses grams group names values b =
+unfoldable pub resultsText : Options → Answer → List ℕ → List Float → List Float → List ℕ → List ℕ → List Float → List Float → List Bool → List ℕ
+resultsText o r text doses grams group names values b w =
     thetaText r
     ++ (fitText (o .code) (o .place) r
     ++ (curveText (o .code) values
     ++ (canistersText (o .code) (o .place) text names values b
-    ++ readingsText (o .code) (o .place) text doses grams group names values b)))
+    ++ (readingsText (o .code) (o .place) text doses grams group names values b
+    ++ warningsText (o .code) w))))
 
 -- without start values nothing more is told than the refusal; a refusal after them comes below them
-unfoldable pub reportText : Options → Answer → Bool → List ℕ → List Float → List Float → List ℕ → List ℕ → List Float → List Float → List Float → List ℕ
-reportText o r example text doses grams group names starts values b =
+unfoldable pub reportText : Options → Answer → Bool → List ℕ → List Float → List Float → List ℕ → List ℕ → List Float → List Float → List Float → List Bool → List ℕ
+reportText o r example text doses grams group names starts values b w =
     let refused = refusedText (r .stage) (r .refused) in
-    beginningText o example (length doses) (length b)
+    beginningText o example (length doses) (length b) (eqb (r .stage) 0 && not (eqb (firstOf w) 0))
     ++ cond (eqb (r .stage) 1) refused
-    (startsText (o .code) (r .turned) starts
-    ++ cond (eqb (r .stage) 0) (resultsText o r text doses grams group names values b) refused)
+    (startsText (o .code) (not (eqb (o .start) 0)) (r .adjusted) starts
+    ++ cond (eqb (r .stage) 0) (resultsText o r text doses grams group names values b w) refused)

@@ -53,17 +53,18 @@ fn quadrature(out: &mut [u8], p: Place, order: u64) -> Place
     if order < 2 {
         return p;
     }
-    fill(
-        out,
-        p,
-        b"  quadrature    order %n. CAUTION: it follows the published Rust, whose correction moves theta far away from where\n                other programs find it. Leave it out unless you want just those numbers.\n",
-        &[order],
-        &[],
-    )
+    fill(out, p, b"  quadrature    order %n\n", &[order], &[])
 }
 
-pub fn beginning(out: &mut [u8], o: Options, example: bool, n: usize, groups: usize) -> Place
-    ensures { λ r. ⌜ (now (out .exit), r) ≡ wrote (now (out .entry)) start (beginningText o example n groups) ⌝ }
+pub fn beginning(
+    out: &mut [u8],
+    o: Options,
+    example: bool,
+    n: usize,
+    groups: usize,
+    warned: bool,
+) -> Place
+    ensures { λ r. ⌜ (now (out .exit), r) ≡ wrote (now (out .entry)) start (beginningText o example n groups warned) ⌝ }
 {
     let p = when(
         out,
@@ -79,5 +80,11 @@ pub fn beginning(out: &mut [u8], o: Options, example: bool, n: usize, groups: us
         b"  method        restricted maximum likelihood\n",
         b"  method        maximum likelihood\n",
     );
-    quadrature(out, p, o.n_agq)
+    let p = quadrature(out, p, o.n_agq);
+    when(
+        out,
+        p,
+        warned,
+        b"  *** WARNINGS: read them at the end ***\n",
+    )
 }

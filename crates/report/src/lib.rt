@@ -1,9 +1,8 @@
-// The report: after its beginning the start values, theta, the fit, and then the tables.
+// The report: after its beginning the start values, theta, the fit, then the tables, and what is to be warned of.
 pub mod beginning;
 
 use crate::beginning::beginning;
 use crate::beginning::either;
-use crate::beginning::when;
 use figures::Place;
 use figures::put;
 use lines::template::fill;
@@ -12,11 +11,17 @@ use refit_calculation::Answer;
 use refit_options::options::Options;
 use refit_options::words::name;
 use refit_options::words::refusal;
+use refit_warnings::told::first;
+use refit_warnings::told::lines;
 use tables::canisters;
 use tables::readings;
 ghost use mathlib.Core.Path.{_≡_};
+ghost use mathlib.Core.Bool.{cond, not, _&&_};
+ghost use mathlib.Core.List.{[]};
+ghost use lib.Dec.{eqb};
 ghost use Rattle.figures.specs.Text.{start, wrote};
-ghost use Rattle.report.specs.Report.{valuesText, startsText, thetaText, spreadText, convergedText, fitText, isStep, curveText, refusedText, resultsText, reportText};
+ghost use Rattle.report.specs.Report.{valuesText, noteText, startsText, thetaText, spreadText, convergedText, fitText, curveText, warningsText, refusedText, resultsText, reportText};
+ghost use Rattle.refit_warnings.specs.Told.{firstOf};
 
 // A line for each value of the curve.
 fn values_of(out: &mut [u8], p: Place, code: u64, values: &[f64]) -> Place
@@ -54,17 +59,41 @@ fn values_of(out: &mut [u8], p: Place, code: u64, values: &[f64]) -> Place
     }
 }
 
-fn starts_of(out: &mut [u8], p: Place, code: u64, turned: bool, starts: &[f64]) -> Place
-    ensures { λ r. ⌜ (now (out .exit), r) ≡ wrote (now (out .entry)) p (startsText code turned (now (starts .entry))) ⌝ }
+// Which start value was not taken as the self-start answers it, and why.
+fn note(out: &mut [u8], p: Place, code: u64, adjusted: bool) -> Place
+    ensures { λ r. ⌜ (now (out .exit), r) ≡ wrote (now (out .entry)) p (cond adjusted (noteText code) []) ⌝ }
 {
-    let p = put(out, p, b"\nStart values, from the readings\n");
-    let p = values_of(out, p, code, starts);
-    when(
+    if adjusted {
+        return either(
+            out,
+            p,
+            code == 1,
+            b"  Note: for readings that rise the self-start answers this scal with a minus sign, from which a fit ends in a step.\n  The sign was turned here before the search.\n",
+            b"  Note: the self-start answers lrc as a rate, ln 2 by the dose at half of the way, and the curve takes the rate's logarithm.\n  The logarithm was taken here before the search.\n",
+        );
+    }
+    p
+}
+
+fn starts_of(
+    out: &mut [u8],
+    p: Place,
+    code: u64,
+    given: bool,
+    adjusted: bool,
+    starts: &[f64],
+) -> Place
+    ensures { λ r. ⌜ (now (out .exit), r) ≡ wrote (now (out .entry)) p (startsText code given adjusted (now (starts .entry))) ⌝ }
+{
+    let p = either(
         out,
         p,
-        turned,
-        b"  Note: for readings that rise the self-start answers this scal with a minus sign, from which a fit ends in a step.\n  The sign was turned here before the search.\n",
-    )
+        given,
+        b"\nStart values, given by --start\n",
+        b"\nStart values, from the readings\n",
+    );
+    let p = values_of(out, p, code, starts);
+    note(out, p, code, adjusted)
 }
 
 // A search or a fit that has not converged is told loudly.
@@ -80,7 +109,6 @@ fn converged(out: &mut [u8], p: Place, is: bool) -> Place
     )
 }
 
-// Theta near an end of the bracket may lie beyond it.
 fn theta_of(out: &mut [u8], p: Place, r: Answer) -> Place
     ensures { λ q. ⌜ (now (out .exit), q) ≡ wrote (now (out .entry)) p (thetaText r) ⌝ }
 {
@@ -91,19 +119,7 @@ fn theta_of(out: &mut [u8], p: Place, r: Answer) -> Place
         &[r.narrowings, r.fits],
         &[r.theta, r.criterion],
     );
-    let p = converged(out, p, r.found);
-    let p = when(
-        out,
-        p,
-        r.theta < 0.201,
-        b"  *** theta lies at the lower end of the searched range: the best theta may be smaller ***\n",
-    );
-    when(
-        out,
-        p,
-        r.theta > 19.999,
-        b"  *** theta lies at the upper end of the searched range: the best theta may be larger ***\n",
-    )
+    converged(out, p, r.found)
 }
 
 // The spread of the canisters, which is theta times the root of sigma2 but for SSasymp, whose criterion is another.
@@ -133,30 +149,32 @@ fn fit_of(out: &mut [u8], p: Place, code: u64, place: usize, r: Answer) -> Place
     converged(out, p, r.converged)
 }
 
-// A trial puts a scal that would fall below 1e-6 there: what ends so is a step and no fit, though it may have converged.
-fn is_step(code: u64, values: &[f64]) -> bool
-    ensures { λ r. ⌜ r ≡ isStep code (now (values .entry)) ⌝ }
-{
-    if code == 1 {
-        return math::at(values, 2) < 2e-6;
-    }
-    if code == 4 {
-        return math::at(values, 3) < 2e-6;
-    }
-    false
-}
-
 fn curve_of_all(out: &mut [u8], p: Place, code: u64, values: &[f64]) -> Place
     ensures { λ r. ⌜ (now (out .exit), r) ≡ wrote (now (out .entry)) p (curveText code (now (values .entry))) ⌝ }
 {
     let p = put(out, p, b"\nThe curve of all canisters\n");
-    let p = values_of(out, p, code, values);
-    when(
-        out,
-        p,
-        is_step(code, values),
-        b"  *** scal ended at its floor, 1e-06: this curve is a step. Do not use these numbers. Do the readings fall? ***\n",
-    )
+    values_of(out, p, code, values)
+}
+
+// The warnings stand last, where a screen ends.
+fn warnings_of(out: &mut [u8], p: Place, code: u64, w: &[bool]) -> Place
+    ensures { λ r. ⌜ (now (out .exit), r) ≡ wrote (now (out .entry)) p (warningsText code (now (w .entry))) ⌝ }
+{
+    if first(w) == 0 {
+        return p;
+    }
+    let p = put(out, p, b"\nWarnings\n");
+    lines(out, p, code, w)
+}
+
+// Whether there is a fit, and it is warned of.
+fn is_warned(stage: u64, w: &[bool]) -> bool
+    ensures { λ r. ⌜ r ≡ (eqb stage 0 && not (eqb (firstOf (now (w .entry))) 0)) ⌝ }
+{
+    if stage == 0 {
+        return first(w) != 0;
+    }
+    false
 }
 
 // Which part of the work was refused, by which number, and what that means.
@@ -183,18 +201,19 @@ fn results(
     names: &[u64],
     values: &[f64],
     b: &[f64],
+    w: &[bool],
 ) -> Place
     ensures { λ q. ⌜
         (now (out .exit), q)
         ≡ wrote (now (out .entry)) p
         (resultsText o r (now (text .entry)) (now (doses .entry)) (now (grams .entry)) (now (group .entry))
-        (now (names .entry)) (now (values .entry)) (now (b .entry))) ⌝ }
+        (now (names .entry)) (now (values .entry)) (now (b .entry)) (now (w .entry))) ⌝ }
 {
     let p = theta_of(out, p, r);
     let p = fit_of(out, p, o.code, o.place, r);
     let p = curve_of_all(out, p, o.code, values);
     let p = canisters(out, p, o.code, o.place, text, names, values, b);
-    readings(
+    let p = readings(
         out,
         p,
         o.code,
@@ -206,7 +225,8 @@ fn results(
         names,
         values,
         b,
-    )
+    );
+    warnings_of(out, p, o.code, w)
 }
 
 pub fn report(
@@ -222,20 +242,22 @@ pub fn report(
     starts: &[f64],
     values: &[f64],
     b: &[f64],
+    w: &[bool],
 ) -> Place
     ensures { λ q. ⌜
         (now (out .exit), q)
         ≡ wrote (now (out .entry)) start
         (reportText o r example (now (text .entry)) (now (doses .entry)) (now (grams .entry)) (now (group .entry))
-        (now (names .entry)) (now (starts .entry)) (now (values .entry)) (now (b .entry))) ⌝ }
+        (now (names .entry)) (now (starts .entry)) (now (values .entry)) (now (b .entry)) (now (w .entry))) ⌝ }
 {
-    let p = beginning(out, o, example, doses.len(), b.len());
+    let warned = is_warned(r.stage, w);
+    let p = beginning(out, o, example, doses.len(), b.len(), warned);
     if r.stage == 1 {
         return refused(out, p, r.stage, r.refused);
     }
-    let p = starts_of(out, p, o.code, r.turned, starts);
+    let p = starts_of(out, p, o.code, o.start != 0, r.adjusted, starts);
     if r.stage == 0 {
-        return results(out, p, o, r, text, doses, grams, group, names, values, b);
+        return results(out, p, o, r, text, doses, grams, group, names, values, b, w);
     }
     refused(out, p, r.stage, r.refused)
 }

@@ -10,11 +10,8 @@ slice-aggregate-refit c = search needs
 refit-requires : tie.Need-refit-requires
 refit-requires c κs = search needs
 
-report-requires : tie.Need-report-requires
-report-requires c κs = search needs
-
-pictured-requires : tie.Need-pictured-requires
-pictured-requires c κs = search needs
+told-requires : tie.Need-told-requires
+told-requires c κs = search needs
 
 same-length : tie.Need-same-length
 same-length c = search needs
@@ -33,7 +30,18 @@ same-length-5 c = search needs
 
 returns : tie.Need-returns
 unfolding answerOf
-returns c = rw (c .before .before .before .before .before .before .before .before .before .before .before .before .before .before .before .before .before .before .before .refit .ensures, ← c .before .before .before .before .before .before .before .before .report .ensures, ← c .before .before .pictured .ensures)
+returns c = rw (c .before .before .before .before .before .before .before .before .before .before .before .before .before .before .before .before .refit .ensures) (c .before .before .before .before .told .ensures)
 
 pub answer-spec : {M : Type 1} → statement M
-answer-spec = tie.close (tie.spec slice-aggregate-refit refit-requires report-requires pictured-requires same-length same-length-2 same-length-3 same-length-4 same-length-5 returns)
+answer-spec =
+    tie.close
+    (tie.spec
+    slice-aggregate-refit
+    refit-requires
+    told-requires
+    same-length
+    same-length-2
+    same-length-3
+    same-length-4
+    same-length-5
+    returns)

@@ -1,4 +1,4 @@
--- By what is asked for, and the stage. Assumes nothing.
+-- By what is asked for and whether there is a fit. Assumes nothing.
 use borrow.Author.Tests.{eq-eqb, ne-eqb}
 use Rattle.refit_report.specs.Run.{picturedOf}
 use borrow.Author.Needs.{needs}
@@ -30,4 +30,13 @@ unfolding picturedOf
 returns-3 c = rw (ne-eqb _ _ (c .before .before .before .before .before .if1 .left), eq-eqb _ _ (c .before .before .before .before .if2 .left)) (c .before .before .draw .ensures)
 
 pub pictured-spec : {M : Type 1} → statement M
-pictured-spec = tie.close (tie.spec begin-requires returns begin-requires-2 returns-2 draw-requires same-length returns-3)
+pictured-spec =
+    tie.close
+    (tie.spec
+    begin-requires
+    returns
+    begin-requires-2
+    returns-2
+    draw-requires
+    same-length
+    returns-3)

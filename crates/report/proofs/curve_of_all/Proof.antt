@@ -14,21 +14,13 @@ put-requires c κs = search needs
 values-of-requires : tie.Need-values-of-requires
 values-of-requires c κs = search needs
 
-is-step-requires : tie.Need-is-step-requires
-is-step-requires c κs = search needs
-
-slice-aggregate-when : tie.Need-slice-aggregate-when
-slice-aggregate-when c = search needs
-
-when-requires : tie.Need-when-requires
-when-requires c κs = search needs
-
 same-length : tie.Need-same-length
 same-length c = search needs
 
 returns : tie.Need-returns
 unfolding curveText
-returns c = rw (← c .before .before .before .before .is-step .ensures) (then _ _ _ _ _ _ _ (c .before .before .before .before .before .before .before .before .before .before .before .before .put .ensures) (then _ _ _ _ _ _ _ (c .before .before .before .before .before .before .before .before .values-of .ensures) (c .before .before .when .ensures)))
+returns c = then _ _ _ _ _ _ _ (c .before .before .before .before .before .before .put .ensures) (c .before .before .values-of .ensures)
 
 pub curve-of-all-spec : {M : Type 1} → statement M
-curve-of-all-spec = tie.close (tie.spec slice-aggregate-put put-requires values-of-requires is-step-requires slice-aggregate-when when-requires same-length returns)
+curve-of-all-spec =
+    tie.close (tie.spec slice-aggregate-put put-requires values-of-requires same-length returns)

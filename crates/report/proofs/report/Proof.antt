@@ -6,6 +6,9 @@ use borrow.Author.Needs.{needs}
 use Rattle.report.proofs.report.Statement.{statement}
 use Rattle.report.proofs.report.Tie as tie
 
+is-warned-requires : tie.Need-is-warned-requires
+is-warned-requires c κs = search needs
+
 beginning-requires : tie.Need-beginning-requires
 beginning-requires c κs = search needs
 
@@ -17,7 +20,7 @@ same-length c = search needs
 
 returns : tie.Need-returns
 unfolding reportText
-returns c = rw (eq-eqb _ _ (c .before .before .before .before .if1 .taken)) (then _ _ _ _ _ _ _ (c .before .before .before .before .before .before .before .before .beginning .ensures) (c .before .before .refused .ensures))
+returns c = rw (← c .before .before .before .before .before .before .before .before .before .before .is-warned .ensures, eq-eqb _ _ (c .before .before .before .before .if1 .taken)) (then _ _ _ _ _ _ _ (c .before .before .before .before .before .before .before .before .beginning .ensures) (c .before .before .refused .ensures))
 
 starts-of-requires : tie.Need-starts-of-requires
 starts-of-requires c κs = search needs
@@ -30,7 +33,7 @@ same-length-2 c = search needs
 
 returns-2 : tie.Need-returns-2
 unfolding reportText
-returns-2 c = rw (ne-eqb _ _ (c .before .before .before .before .before .before .before .before .before .before .if1 .left), eq-eqb _ _ (c .before .before .before .before .if2 .taken)) (then _ _ _ _ _ _ _ (c .before .before .before .before .before .before .before .before .before .before .before .before .before .before .beginning .ensures) (then _ _ _ _ _ _ _ (c .before .before .before .before .before .before .before .before .starts-of .ensures) (c .before .before .results .ensures)))
+returns-2 c = rw (← c .before .before .before .before .before .before .before .before .before .before .before .before .before .before .before .before .before .is-warned .ensures, ne-eqb _ _ (c .before .before .before .before .before .before .before .before .before .before .before .if1 .left), eq-eqb _ _ (c .before .before .before .before .if2 .taken)) (then _ _ _ _ _ _ _ (c .before .before .before .before .before .before .before .before .before .before .before .before .before .before .before .beginning .ensures) (then _ _ _ _ _ _ _ (c .before .before .before .before .before .before .before .before .starts-of .ensures) (c .before .before .results .ensures)))
 
 refused-requires-2 : tie.Need-refused-requires-2
 refused-requires-2 c κs = search needs
@@ -40,7 +43,21 @@ same-length-3 c = search needs
 
 returns-3 : tie.Need-returns-3
 unfolding reportText
-returns-3 c = rw (ne-eqb _ _ (c .before .before .before .before .before .before .before .before .before .before .if1 .left), ne-eqb _ _ (c .before .before .before .before .if2 .left)) (then _ _ _ _ _ _ _ (c .before .before .before .before .before .before .before .before .before .before .before .before .before .before .beginning .ensures) (then _ _ _ _ _ _ _ (c .before .before .before .before .before .before .before .before .starts-of .ensures) (c .before .before .refused2 .ensures)))
+returns-3 c = rw (← c .before .before .before .before .before .before .before .before .before .before .before .before .before .before .before .before .before .is-warned .ensures, ne-eqb _ _ (c .before .before .before .before .before .before .before .before .before .before .before .if1 .left), ne-eqb _ _ (c .before .before .before .before .if2 .left)) (then _ _ _ _ _ _ _ (c .before .before .before .before .before .before .before .before .before .before .before .before .before .before .before .beginning .ensures) (then _ _ _ _ _ _ _ (c .before .before .before .before .before .before .before .before .starts-of .ensures) (c .before .before .refused2 .ensures)))
 
 pub report-spec : {M : Type 1} → statement M
-report-spec = tie.close (tie.spec beginning-requires refused-requires same-length returns starts-of-requires results-requires same-length-2 returns-2 refused-requires-2 same-length-3 returns-3)
+report-spec =
+    tie.close
+    (tie.spec
+    is-warned-requires
+    beginning-requires
+    refused-requires
+    same-length
+    returns
+    starts-of-requires
+    results-requires
+    same-length-2
+    returns-2
+    refused-requires-2
+    same-length-3
+    returns-3)

@@ -20,24 +20,21 @@ fill-requires c κs = search needs
 converged-requires : tie.Need-converged-requires
 converged-requires c κs = search needs
 
-slice-aggregate-when : tie.Need-slice-aggregate-when
-slice-aggregate-when c = search needs
-
-when-requires : tie.Need-when-requires
-when-requires c κs = search needs
-
-slice-aggregate-when-2 : tie.Need-slice-aggregate-when-2
-slice-aggregate-when-2 c = search needs
-
-when-requires-2 : tie.Need-when-requires-2
-when-requires-2 c κs = search needs
-
 same-length : tie.Need-same-length
 same-length c = search needs
 
 returns : tie.Need-returns
 unfolding thetaText
-returns c = then _ _ _ _ _ _ _ (c .before .before .before .before .before .before .before .before .before .before .before .before .before .before .before .before .before .before .fill .ensures) (then _ _ _ _ _ _ _ (c .before .before .before .before .before .before .before .before .before .before .before .before .before .before .converged .ensures) (then _ _ _ _ _ _ _ (c .before .before .before .before .before .before .before .before .when .ensures) (c .before .before .when2 .ensures)))
+returns c = then _ _ _ _ _ _ _ (c .before .before .before .before .before .before .fill .ensures) (c .before .before .converged .ensures)
 
 pub theta-of-spec : {M : Type 1} → statement M
-theta-of-spec = tie.close (tie.spec slice-aggregate-fill slice-aggregate-fill-2 slice-aggregate-fill-3 fill-requires converged-requires slice-aggregate-when when-requires slice-aggregate-when-2 when-requires-2 same-length returns)
+theta-of-spec =
+    tie.close
+    (tie.spec
+    slice-aggregate-fill
+    slice-aggregate-fill-2
+    slice-aggregate-fill-3
+    fill-requires
+    converged-requires
+    same-length
+    returns)

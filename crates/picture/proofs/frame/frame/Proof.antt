@@ -1,3 +1,4 @@
+-- One text after another. Assumes nothing.
 use Rattle.picture.specs.Frame.{frameText}
 use Rattle.marks.proofs.Laws.{then}
 use borrow.Author.Needs.{needs}
@@ -5,13 +6,13 @@ use Rattle.picture.proofs.frame.frame.Statement.{statement}
 use Rattle.picture.proofs.frame.frame.Tie as tie
 
 title-requires : tie.Need-title-requires
-title-requires c κs = tt
+title-requires c κs = search needs
 
 axes-requires : tie.Need-axes-requires
-axes-requires c κs = tt
+axes-requires c κs = search needs
 
 labels-requires : tie.Need-labels-requires
-labels-requires c κs = tt
+labels-requires c κs = search needs
 
 same-length : tie.Need-same-length
 same-length c = search needs

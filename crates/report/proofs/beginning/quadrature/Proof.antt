@@ -30,4 +30,13 @@ unfolding quadratureText
 returns-2 c = rw (le-ltb _ _ (c .before .before .before .before .before .before .before .if1 .left)) (c .before .before .fill .ensures)
 
 pub quadrature-spec : {M : Type 1} → statement M
-quadrature-spec = tie.close (tie.spec returns slice-aggregate-fill slice-aggregate-fill-2 slice-aggregate-fill-3 fill-requires same-length returns-2)
+quadrature-spec =
+    tie.close
+    (tie.spec
+    returns
+    slice-aggregate-fill
+    slice-aggregate-fill-2
+    slice-aggregate-fill-3
+    fill-requires
+    same-length
+    returns-2)
