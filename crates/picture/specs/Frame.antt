@@ -41,7 +41,7 @@ titleText code warning =
     ++ (wordOf code (bytes "\nSSlogis\nSSasymp\nSSmicmen\nSSfpl\n")
     ++ (wordOf warning
     (bytes
-    ": what was weighed, and each canister's fitted curve\n: <tspan fill=\"#b00020\">DO NOT USE THIS FIT: a value did not move from its start</tspan>\n: <tspan fill=\"#b00020\">DO NOT USE THIS FIT: the search over theta did not converge</tspan>\n: <tspan fill=\"#b00020\">DO NOT USE THIS FIT: it did not converge</tspan>\n: <tspan fill=\"#b00020\">DO NOT USE THIS FIT: the curve is a step</tspan>\n: <tspan fill=\"#b00020\">DO NOT USE THIS FIT: it explains nothing</tspan>\n: <tspan fill=\"#b00020\">DO NOT USE THIS FIT: too few readings</tspan>\n: what was weighed, and each canister's fitted curve (theta at the lower end of its range)\n: what was weighed, and each canister's fitted curve (theta at the upper end of its range)\n: what was weighed, and the fitted curve (one canister only: theta means nothing)\n: what was weighed, and each canister's fitted curve (quadrature: theta as in the published Rust)\n")
+    ": what was weighed, and each canister's fitted curve\n: <tspan fill=\"#b00020\">DO NOT USE THIS FIT: a value did not move from its start</tspan>\n: <tspan fill=\"#b00020\">DO NOT USE THIS FIT: the search did not converge</tspan>\n: <tspan fill=\"#b00020\">DO NOT USE THIS FIT: it did not converge</tspan>\n: <tspan fill=\"#b00020\">DO NOT USE THIS FIT: the curve is a step</tspan>\n: <tspan fill=\"#b00020\">DO NOT USE THIS FIT: it explains nothing</tspan>\n: <tspan fill=\"#b00020\">DO NOT USE THIS FIT: too few readings</tspan>\n: the fitted curves; theta at the lower end of its range\n: the fitted curves; theta at the upper end of its range\n: the fitted curve; one canister only, so no theta\n: the fitted curves; theta by the Rust's quadrature\n")
     ++ bytes "</text>\n"))
 
 unfoldable pub axesText : Axis → Axis → List ℕ

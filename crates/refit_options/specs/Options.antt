@@ -76,7 +76,7 @@ unfoldable pub endsInSvg : List ℕ → Bool
 endsInSvg word = cond (ltb (length word) 5) false (eqb (numberOf (bytes "\n.svg\n") (drop (length word - 4) word)) 1)
 
 -- the option that a word is: 1 to 5 await a word, 6 reml, 7 ml, 8 to 10 help, 11 version; 0 is another word
-unfoldable pub optionOf : List ℕ → ℕ
+abbrev pub optionOf : List ℕ → ℕ
 optionOf =
     numberOf (bytes "\n--curve\n--effect\n--quadrature\n--svg\n--start\n--reml\n--ml\n--help\n-h\nhelp\n--version\n")
 

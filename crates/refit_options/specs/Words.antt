@@ -8,11 +8,11 @@ use Rattle.figures.specs.Text.{bytes, wholeText}
 use Rattle.lines.specs.Lines.{wordOf, numberOf}
 
 -- the number of a value's name; 0 for any other word
-unfoldable pub nameOf : List ℕ → ℕ
+abbrev pub nameOf : List ℕ → ℕ
 nameOf = numberOf (bytes "\nAsym\nxmid\nscal\nR0\nlrc\nVm\nK\nA\nB\n")
 
 -- the code of a curve's name; 0 for any other word
-unfoldable pub curveOf : List ℕ → ℕ
+abbrev pub curveOf : List ℕ → ℕ
 curveOf = numberOf (bytes "\nSSlogis\nSSasymp\nSSmicmen\nSSfpl\n")
 
 -- the numbers of the names of a curve's values; 0 is none

@@ -1,5 +1,4 @@
 -- By whether it is so. Assumes nothing.
-use borrow.Author.Needs.{needs}
 use Rattle.refit_warnings.proofs.added.Statement.{statement}
 use Rattle.refit_warnings.proofs.added.Tie as tie
 

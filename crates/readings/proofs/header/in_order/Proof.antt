@@ -1,5 +1,5 @@
 -- Each test of the code is one of the definition. Assumes nothing.
-use mathlib.Core.Path.{refl, sym, _∙_}
+use mathlib.Core.Path.{sym, _∙_}
 use Rattle.readings.specs.Header.{inOrder}
 use borrow.Author.Needs.{needs}
 use Rattle.readings.proofs.header.in_order.Statement.{statement}

@@ -1,5 +1,5 @@
 -- Each test of the code is one of the definition. Assumes nothing.
-use mathlib.Core.Path.{refl, sym, ap, _∙_}
+use mathlib.Core.Path.{sym, ap, _∙_}
 use mathlib.Core.Bool.{not}
 use borrow.Author.Tests.{lt-ltb, le-ltb}
 use Rattle.readings.specs.Row.{decimalComma}

@@ -1,7 +1,6 @@
 -- By the warning. Assumes nothing.
 use borrow.Author.Tests.{lt-ltb, le-ltb}
 use Rattle.figures.specs.Laws.{stays}
-use mathlib.Core.Path.{refl}
 use borrow.Author.Needs.{needs}
 use Rattle.refit_warnings.proofs.told.value.Statement.{statement}
 use Rattle.refit_warnings.proofs.told.value.Tie as tie
