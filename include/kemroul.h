@@ -50,7 +50,7 @@ extern "C" {
 #endif
 
 /* e to the power x and the natural logarithm of x, as fdlibm 5.3's e_exp.c and e_log.c compute them,
- * each operation rounded once in the file's order: the same bits on every board.
+ * each operation rounded once in the file's order: the same bits on every x86-64 board.
  * exp: +infinity above 709.78..., +0 below -745.13...; ln: -infinity at both zeros, NaN below zero. NaN at NaN. */
 double kemroul_exp(double x);
 double kemroul_ln(double x);
@@ -94,9 +94,12 @@ uint64_t kemroul_curve(uint64_t code, const double *values, size_t n_values, dou
  * Refuses 1, then 2 (not for 0 readings), then 9.
  *   doses, grams       the readings: two lists of one length
  *   values, n_values   written: the p starting values
- * They may be infinite or NaN where the readings overflow; a fit then refuses them with 7. For readings that rise
- * with the dose curve 1's scal is negative, as in the software that this follows: turn its sign before
- * a fit (examples/c/refit.c does). */
+ * They may be infinite or NaN where the readings overflow; a fit then refuses them with 7. Two of them are not to be
+ * handed to a fit as they are; they are so in the software that this follows (docs/DIFFERENCES.md, findings 2 and 4):
+ *   curve 1            for readings that rise with the dose scal is negative: turn its sign (examples/c/refit.c does)
+ *   curve 2            lrc is the rate ln 2 / xmid, where the curve takes the logarithm of a rate: take kemroul_ln of it
+ *                      where it is positive. From the rate itself exp(lrc) is far off, with doses in the thousands both
+ *                      gradients vanish, and the fit answers a flat line and says that it converged */
 uint64_t kemroul_start(uint64_t code, const double *doses, size_t n_doses, const double *grams, size_t n_grams,
                        double *values, size_t n_values);
 
@@ -110,9 +113,13 @@ uint64_t kemroul_start(uint64_t code, const double *doses, size_t n_doses, const
  *                           bounds hold a value fixed
  *   group_lower, _upper     p bounds each for a group's own curve value, counted where an effect stands. They hold to
  *                           rounding only, since an effect is stored as a difference
- *   theta                   the effects' covariance factor in absolute units (grams, or the value's unit): for one
- *                           effect its standard deviation, for two the lower factor by columns. Entries
- *                           on the diagonal below 1e-8 count as 1e-8
+ *   theta                   how freely a group's own value may differ: an effect b adds (b / theta)^2 to the sum of the
+ *                           squared differences. So theta is the effects' standard deviation divided by that of a
+ *                           reading, spread = theta * sqrt(sigma2), and not the spread itself: R's nlme finds a spread
+ *                           of 3.65 and a residual deviation of 0.719 for Loblolly, and that is theta 5.08 here.
+ *                           ('Absolute units', as the source has it, says that no residual variance is multiplied
+ *                           in.) For two effects the lower factor by columns, in the same measure. Entries on the
+ *                           diagonal below 1e-8 count as 1e-8
  *   max_rounds              at most so many rounds begin, 0 to 1,000. With 0 the start returns, adjusted (curves 1
  *                           and 4: a scal smaller than 1e-8 in size becomes 350), and within its bounds
  * and writes
@@ -145,7 +152,11 @@ uint64_t kemroul_fit(uint64_t code, const double *doses, size_t n_doses, const d
  *   values             as kemroul_fit does
  *   effects_out        as kemroul_fit does
  *   criterion          may be infinite or NaN
- *   sigma2             the residual variance, at least 1e-12 and never NaN; it may be infinite */
+ *   sigma2             the residual variance, at least 1e-12 and never NaN; it may be infinite
+ * Both have a form of their own for curve 2 with one effect, as in the software that this follows: sigma2 is the rss
+ * alone, without the penalty, divided by the degrees of freedom, and the criterion adds the penalty and group_count
+ * times the logarithm of theta squared where the other curves have a determinant with gradients in it. It is lower for a
+ * better theta, but it is no deviance: do not compare it with another curve's, nor theta with another program's. */
 uint64_t kemroul_criterion(uint64_t code, const double *doses, size_t n_doses, const double *grams, size_t n_grams,
                      const uint64_t *groups, size_t n_groups, uint64_t group_count,
                      const uint64_t *effects, size_t n_effects,

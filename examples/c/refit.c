@@ -65,7 +65,8 @@ static int find_starts(double starts[VALUES])
     printf("start      Asym %.4f  xmid %.4f  scal %.4f\n", starts[ASYM], starts[XMID], starts[SCAL]);
     /* Where weights rise with the dose the start's scal has the wrong sign: the library follows the software that
      * it was ported from (docs/DIFFERENCES.md, finding 2). A fit's trials raise a scal below 1e-6 to 1e-6, and the fit
-     * ends there, in a step (deviance 367.67 instead of 263.17), so the sign is turned. */
+     * ends there, in a step (deviance 367.67 instead of 263.17), so the sign is turned. With curve 2 (SSasymp) it is the
+     * third value again: where it is positive, take kemroul_ln of it (finding 4). */
     starts[SCAL] = fabs(starts[SCAL]);
     return 1;
 }

@@ -81,7 +81,9 @@ impl Curve {
     /// The values may be infinite or NaN where the readings overflow. Refuses [`Refusal::Readings`], then
     /// [`Refusal::Results`].
     ///
-    /// For readings that rise with the dose the scal of [`Curve::Sslogis`] is negative: turn its sign before a fit.
+    /// Before a fit, for readings that rise with the dose, turn the sign of the scal of [`Curve::Sslogis`], which is
+    /// negative; and take the logarithm ([`crate::ln`]) of the lrc of [`Curve::Ssasymp`] where it is positive: it is the
+    /// rate ln 2 / xmid, where the curve takes a rate's logarithm.
     pub fn start(self, doses: &[f64], grams: &[f64], values: &mut [f64]) -> Result<(), Refusal> {
         // Sound: each list goes with its length, and `values`, lent as `&mut`, is apart from the others.
         let number = unsafe {

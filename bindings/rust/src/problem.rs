@@ -26,10 +26,14 @@ impl Effects {
     }
 }
 
-/// The covariance factor of the effects, in absolute units; entries on its diagonal below 1e-8 count as 1e-8.
+/// How freely a group's own value may differ: an effect b adds (b / theta)² to the sum of the squared differences.
+///
+/// So theta is the effects' standard deviation divided by that of a reading: spread = theta · √sigma2. It is not the
+/// spread itself: R's nlme finds a spread of 3.65 and a residual deviation of 0.719 for Loblolly, and that is theta 5.08
+/// here. Entries on the factor's diagonal below 1e-8 count as 1e-8.
 #[derive(Clone, Copy, Debug, PartialEq)]
 pub enum Theta {
-    /// Of one effect: its standard deviation.
+    /// Of one effect.
     One(f64),
     /// Of two: the lower factor by columns.
     Two([f64; 3]),
@@ -103,7 +107,8 @@ pub struct Fit {
     pub trials: u64,
 }
 
-/// What a criterion answers besides the lists that it writes.
+/// What a criterion answers besides the lists that it writes. Both numbers have a form of their own for
+/// [`Curve::Ssasymp`] with one effect (include/kemroul.h): there the criterion is no deviance.
 #[derive(Clone, Copy, Debug, PartialEq)]
 pub struct Criterion {
     /// The profiled deviance; lower is better. It may be infinite or NaN.
