@@ -1,22 +1,30 @@
-# The differential oracle: the archive's answers against the published Rust's, bit for bit (oracle/README.md).
-# None of it is part of the gate.
+# Commands beside the gate (.ci/run); none of them is part of it. `make help` prints these lines.
 #
-#   make differential    builds the archive, the oracle and the driver, and compares them
-#   make oracle          builds the oracle, the generator and the comparing programs
-#   make oracle-test     tests the oracle itself by answers that were known before it
-#   make strictmath      compares the oracle's exp, ln and sqrt with Java's StrictMath
-#   make distance        how far the unreplaced Rust (std's exp, ln, max, min; LAPACK) lies from the replaced one
-#   make sample          writes SAMPLE answered lines of OP to OUT
-#   make bench           builds the archive and the Rust, and prints the tables of docs/PERFORMANCE.md (bench/README.md)
-#   make performance     the same into docs/PERFORMANCE.md
-#   make instructions    without times, with the archive as it stands
+# Beside the Rattle kit each needs what stands in brackets:
+#   rust      the published Rust: the repository x4g4p3x/lme-rs at commit 8b8502d2c9, its folder named by SOURCE=folder
+#   archive   libkemroul.a, which `rt staticlib kemroul` writes
 #
-# What the firmware engineer holds; these need the archive (`rt staticlib kemroul`):
+# The archive's answers against the published Rust's, bit for bit (oracle/README.md):
+#   make differential    builds the archive, the oracle and the driver, and compares them   [rust, cargo, python3]
+#   make compare         the same with the archive as it stands                             [rust, archive, cargo, python3]
+#   make oracle          builds the oracle, the generator and the comparing programs        [rust, cargo, python3]
+#   make oracle-test     tests the oracle itself by answers that were known before it       [rust, cargo, python3]
+#   make strictmath      the oracle's exp, ln and sqrt with Java's StrictMath               [rust, cargo, python3, a JDK]
+#   make distance        how far the unreplaced Rust lies from the replaced one             [rust, cargo, python3, LAPACK]
+#   make sample          writes SAMPLE answered lines of OP to OUT                          [rust, cargo, python3]
 #
-#   make example         builds examples/c/refit.c and runs it
-#   make bindings-test   tests the header (as C99, C11 and C++, and against the exports), the example, and bindings/rust
-#   make stack           bytes of stack of each function of the header (bench/stack)
-#   make trials          rounds and trials of generated fits; needs what the oracle needs
+# Speed, beside the published Rust (bench/README.md):
+#   make bench           builds the archive, and prints the tables of docs/PERFORMANCE.md   [rust, cargo, python3, gcc, valgrind]
+#   make measure         the same with the archive as it stands                             [also archive]
+#   make performance     as bench, into docs/PERFORMANCE.md                                 [as bench]
+#   make instructions    as measure, without times                                          [as measure]
+#   make trials          rounds and trials of generated fits                                [rust, archive, cargo, python3]
+#
+# What the firmware engineer holds:
+#   make example         builds examples/c/refit.c and runs it                              [archive, a C compiler]
+#   make header-test     the header as C and C++, and the documents against the sources     [python3, gcc, g++]
+#   make bindings-test   header-test, the example, and bindings/rust                        [archive, python3, gcc, g++, cargo]
+#   make stack           bytes of stack of each function of the header                      [archive, python3, gcc, objdump]
 
 # The folder that holds the published Rust, as src/nlmm/fit.rs and so on.
 SOURCE ?= ../shared/docs/src
@@ -48,11 +56,18 @@ BENCH_ROWS ?=
 # UNREPLACED=1 measures the whole of the unreplaced Rust too, which needs LAPACK.
 UNREPLACED ?=
 
-.PHONY: differential compare oracle oracle-test copy archive driver strictmath distance sample
+.PHONY: help source differential compare oracle oracle-test copy archive driver strictmath distance sample
 .PHONY: bench measure performance instructions bench-program machine
 .PHONY: example bindings-test header-test stack trials
 
-copy:
+help:
+	@sed -n '/^#/!q; s/^# \{0,1\}//p' Makefile
+
+# Before anything is built.
+source:
+	@test -f $(SOURCE)/src/nlmm/fit.rs || { echo "no published Rust in $(SOURCE): check out x4g4p3x/lme-rs at commit 8b8502d2c9, and name its folder by SOURCE=folder" >&2; exit 1; }
+
+copy: source
 	@python3 oracle/copy_source.py $(SOURCE) oracle/target/copy
 
 oracle: copy
@@ -67,7 +82,7 @@ archive:
 driver: oracle
 	@cd oracle && KEMROUL_ARCHIVE_DIR=$(abspath $(ARCHIVE_DIR)) $(CARGO) -p driver
 
-differential: archive
+differential: source archive
 	@$(MAKE) --no-print-directory compare
 
 # As `differential`, with the archive as it stands.
@@ -102,7 +117,7 @@ machine:
 
 BENCH = $(BIN)/gen --realistic $(SEED) $(BENCH_LINES) $(BENCH_OPS) | $(BIN)/bench tables
 
-bench: archive
+bench: source archive
 	@$(MAKE) --no-print-directory measure
 
 # As `bench`, with the archive as it stands.
@@ -110,7 +125,7 @@ measure: bench-program machine
 	@$(BENCH) $(BENCH_SECONDS) "$(BENCH_ROWS)"
 
 # Measures, and puts the tables below the last heading of docs/PERFORMANCE.md.
-performance: archive
+performance: source archive
 	@$(MAKE) --no-print-directory bench-program
 	@{ sed '/^## Measured$$/q' docs/PERFORMANCE.md; echo; $(MAKE) --no-print-directory machine; \
 	  $(BENCH) $(BENCH_SECONDS) "$(BENCH_ROWS)" || echo failed; } > target/PERFORMANCE.md
