@@ -275,7 +275,7 @@ pub fn command(words: &[u8], out: i32, err: i32) {
     }
     let s = given_in(words, o);
     if s.count != curves::mean_fn::n_params(o.code) {
-        complain_of_word(to, words, o.start, 11);
+        complain_of_word(to, words, o.start, 10);
         return;
     }
     let given = s.values;

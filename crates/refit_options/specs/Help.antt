@@ -6,7 +6,7 @@ use Rattle.figures.specs.Text.{bytes}
 unfoldable pub helpText : List ℕ
 helpText =
     bytes
-    "refit: fits a dosing curve to weighed doses, with each canister's own curve\n\n  refit [FILE] [options]    fits the readings of FILE; without FILE, R's data set Orange\n  refit help                this text; so do -h and --help\n  refit --version           the version\n\nA line of the file is a reading: dose,grams,canister; a semicolon, a tab or spaces may stand for the comma. A number\nhas up to 15 digits, and a point before its decimals. The canister is a number or a name of up to 32 letters, digits,\n'-', '.' and '_'. A line that begins with # is a comment. The first line may be a header; a name in it that is known, as\ndose, steps, age, grams, weight, canister, must stand in this order. At most 512 readings and 32 canisters.\nA run that is refused says why on standard error and writes nothing to standard output. There is no exit status.\n\n"
+    "refit: fits a dosing curve to weighed doses, with each canister's own curve\n\n  refit [FILE] [options]    fits the readings of FILE; without FILE, R's data set Orange\n  refit help                this text; so do -h and --help\n  refit --version           the version\n\nA line of the file is a reading: dose,grams,canister; a semicolon, a tab or spaces may stand for the comma. A number\nhas up to 15 digits, and a point before its decimals. The canister is a number or a name of up to 32 letters, digits,\n'-', '.' and '_'. A line that begins with # is a comment. The first line may be a header; a name in it that is known, as\ndose, steps, age or grams, weight or canister, must stand over its column. At most 512 readings and 32 canisters.\nA run that is refused says why on standard error and writes nothing to standard output. There is no exit status.\n\n"
     ++ (bytes
     "  --curve SSlogis     Asym / (1 + exp((xmid - dose) / scal)): this one if none is named\n  --curve SSasymp     Asym + (R0 - Asym) * exp(-exp(lrc) * dose)\n  --curve SSmicmen    Vm * dose / (K + dose)\n  --curve SSfpl       A + (B - A) / (1 + exp((xmid - dose) / scal))\n  --effect NAME       the value that each canister has its own of: Asym, R0, K, ..; if none is named the curve's first\n  --start a,b,c       start values by hand: Asym,xmid,scal or Asym,R0,lrc or Vm,K or A,B,xmid,scal\n  --ml, --reml        maximum likelihood, if nothing is said, or restricted maximum likelihood\n"
     ++ (bytes

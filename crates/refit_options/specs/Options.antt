@@ -111,13 +111,13 @@ optionFrom n o word i =
     (cond (ltb n 6) (awaiting o n i)
     (cond (ltb n 8) (withReml o (eqb n 6)) (printing o (cond (ltb n 11) 1 2))))
 
--- after a fault nothing changes; 10: said before, or the contrary
+-- after a fault nothing changes; 9: said before, or the contrary
 unfoldable pub nextOf : Options → List ℕ → ℕ → Options
 nextOf o word i =
     let n = optionOf word in
     cond (eqb (o .fault) 0)
     (cond (eqb (o .awaits) 0)
-    (cond (not (eqb (slotOf n) 0) && getD (o .said) (slotOf n) false) (faultyAt o 10 i) (optionFrom n (saying o (slotOf n)) word i))
+    (cond (not (eqb (slotOf n) 0) && getD (o .said) (slotOf n) false) (faultyAt o 9 i) (optionFrom n (saying o (slotOf n)) word i))
     (awaitedOf o word i))
     o
 
@@ -138,4 +138,4 @@ unfoldable pub optionFault : ℕ → List ℕ
 optionFault number =
     wordOf number
     (bytes
-    "\nno such option; 'refit help' tells them\nthis option wants a word after it; 'refit help' tells which\nno such curve; there are SSlogis, SSasymp, SSmicmen and SSfpl\nno curve has a value of this name; 'refit help' tells the names\nthe effect is not a value of the curve; 'refit help' tells the names\nthe order of quadrature is a whole number from 0 to 11\na second file; one file is read at a time\nthe picture's name must end in .svg\nthe command line is too long\nthis option was given before, or one that contradicts it\n--start wants as many numbers as the curve has values, with commas between them and points for decimals, as in 200,725,350\n")
+    "\nno such option; 'refit help' tells them\nthis option wants a word after it; 'refit help' tells which\nno such curve; there are SSlogis, SSasymp, SSmicmen and SSfpl\nno curve has a value of this name; 'refit help' tells the names\nthe effect is not a value of the curve; 'refit help' tells the names\nthe order of quadrature is a whole number from 0 to 11\na second file; one file is read at a time\nthe picture's name must end in .svg\nthis option was given before, or one that contradicts it\n--start wants as many numbers as the curve has values, with commas between them and points for decimals, as in 200,725,350\n")

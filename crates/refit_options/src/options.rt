@@ -221,7 +221,7 @@ pub fn next(o: Options, word: &[u8], i: usize) -> Options
     let option = option_of(word);
     let s = slot(option);
     if said(o, s) {
-        return faulty(o, 10, i);
+        return faulty(o, 9, i);
     }
     option_from(option, say(o, s), word, i)
 }
@@ -254,7 +254,7 @@ pub fn fault(out: &mut [u8], p: Place, number: u64) -> Place
     word(
         out,
         p,
-        b"\nno such option; 'refit help' tells them\nthis option wants a word after it; 'refit help' tells which\nno such curve; there are SSlogis, SSasymp, SSmicmen and SSfpl\nno curve has a value of this name; 'refit help' tells the names\nthe effect is not a value of the curve; 'refit help' tells the names\nthe order of quadrature is a whole number from 0 to 11\na second file; one file is read at a time\nthe picture's name must end in .svg\nthe command line is too long\nthis option was given before, or one that contradicts it\n--start wants as many numbers as the curve has values, with commas between them and points for decimals, as in 200,725,350\n",
+        b"\nno such option; 'refit help' tells them\nthis option wants a word after it; 'refit help' tells which\nno such curve; there are SSlogis, SSasymp, SSmicmen and SSfpl\nno curve has a value of this name; 'refit help' tells the names\nthe effect is not a value of the curve; 'refit help' tells the names\nthe order of quadrature is a whole number from 0 to 11\na second file; one file is read at a time\nthe picture's name must end in .svg\nthis option was given before, or one that contradicts it\n--start wants as many numbers as the curve has values, with commas between them and points for decimals, as in 200,725,350\n",
         number,
     )
 }

@@ -22,22 +22,14 @@ fn shown(words: &[u8]) {
     command(words, STDOUT_FILENO, STDOUT_FILENO);
 }
 
-// The picture that a run wrote.
-fn picture() {
+// Of the picture that a run wrote, at most so many bytes.
+fn picture(most: usize) {
     let mut svg = [0u8; 131072];
     let fd = os::open_read(b"picture.svg");
     let n = io::read_full(fd, &mut svg);
     libc::close(fd);
-    io::write_all(STDOUT_FILENO, &svg[..n]);
-}
-
-// Its first lines, with the title.
-fn title() {
-    let mut svg = [0u8; 512];
-    let fd = os::open_read(b"picture.svg");
-    let n = io::read_full(fd, &mut svg);
-    libc::close(fd);
-    io::write_all(STDOUT_FILENO, &svg[..n]);
+    let k = figures::lesser(n, most);
+    io::write_all(STDOUT_FILENO, &svg[0..k]);
 }
 
 // docs/fits-beside-r.md has these.
@@ -50,13 +42,14 @@ fn beside_r() {
 // A byte order mark, carriage returns, semicolons, a header and a comment.
 fn a_machine() {
     shown(b"machine.csv\0--curve\0SSmicmen\0--svg\0picture.svg\0");
-    picture();
+    picture(131072);
 }
 
 // From the rate where the curve takes its logarithm, so that it explains nothing; and with quadrature.
 fn warned() {
     shown(b"--curve\0SSasymp\0--start\0175.8,31,0.0009259427\0--svg\0picture.svg\0");
-    title();
+    // Up to the title.
+    picture(365);
     shown(b"machine.csv\0--curve\0SSfpl\0--effect\0B\0--quadrature\03\0--reml\0");
 }
 
@@ -67,7 +60,11 @@ fn refused() {
     shown(b"--ml\0machine.csv\0--reml\0");
     shown(b"machine.csv\0--start\01,2\0");
     shown(b"--effect\0K\0");
+}
+
+fn words() {
     shown(b"--version\0");
+    shown(b"-h\0");
 }
 
 fn main() {
@@ -75,4 +72,5 @@ fn main() {
     a_machine();
     warned();
     refused();
+    words();
 }
