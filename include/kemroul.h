@@ -117,9 +117,10 @@ uint64_t kemroul_start(uint64_t code, const double *doses, size_t n_doses, const
  *                           squared differences. So theta is the effects' standard deviation divided by that of a
  *                           reading, spread = theta * sqrt(sigma2), and not the spread itself: R's nlme finds a spread
  *                           of 3.65 and a residual deviation of 0.719 for Loblolly, and that is theta 5.08 here.
- *                           ('Absolute units', as the source has it, says that no residual variance is multiplied
- *                           in.) For two effects the lower factor by columns, in the same measure. Entries on the
- *                           diagonal below 1e-8 count as 1e-8
+ *                           The project's scope paper, document 01, has 'theta in absolute units; the penalty is not
+ *                           scaled by the residual variance': (b / theta)^2 is added as it is, not times sigma2. For
+ *                           two effects the lower factor by columns, in the same measure. Entries on the diagonal
+ *                           below 1e-8 count as 1e-8
  *   max_rounds              at most so many rounds begin, 0 to 1,000. With 0 the start returns, adjusted (curves 1
  *                           and 4: a scal smaller than 1e-8 in size becomes 350), and within its bounds
  * and writes
