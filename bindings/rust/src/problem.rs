@@ -30,7 +30,8 @@ impl Effects {
 ///
 /// So theta is the effects' standard deviation divided by that of a reading: spread = theta · √sigma2. It is not the
 /// spread itself: R's nlme finds a spread of 3.65 and a residual deviation of 0.719 for Loblolly, and that is theta 5.08
-/// here. Entries on the factor's diagonal below 1e-8 count as 1e-8.
+/// here. (Document 01, the project's scope paper, has 'theta in absolute units; the penalty is not scaled by the residual
+/// variance': (b / theta)² is added as it is, not times sigma2.) Entries on the factor's diagonal below 1e-8 count as 1e-8.
 #[derive(Clone, Copy, Debug, PartialEq)]
 pub enum Theta {
     /// Of one effect.
