@@ -3,7 +3,7 @@ use Prim.Native.Nat.{ℕ, _+_, _-_, _/_, _<_, _≤_}
 use mathlib.Core.Path.{_≡_, refl}
 use mathlib.Core.Bool.{Bool, true, false, _&&_, _||_}
 use mathlib.Core.List.{List}
-use borrow.Author.Tests.{lt-ltb, le-ltb}
+use borrow.Author.Tests.{lt-ltb, le-ltb, eq-eqb, ne-eqb}
 use lib.Dec.{ltb, eqb}
 use lib.ListN.{length, take, drop}
 use Rattle.lines.specs.Lines as Lines
@@ -15,13 +15,13 @@ use Rattle.readings.specs.declared.row.Field.{Field}
 use Rattle.readings.specs.declared.row.Number.{Number}
 
 module _ (line : List ℕ) (start end n : ℕ) (e : end ≡ scanOf inLetters line start) (w : n ≡ Lines.numberOf columnWords (take (end - start) (drop start line))) where
-  pub column-none : 15 < n → 0 ≡ columnOf line start
+  pub column-none : n ≡ 0 → 0 ≡ columnOf line start
   unfolding columnOf
-  column-none h = rw (← e, ← w, lt-ltb 15 n h)
+  column-none h = rw (← e, ← w, eq-eqb n 0 h)
 
-  pub column-known : n ≤ 15 → (n + 4) / 5 ≡ columnOf line start
+  pub column-known : (n ≡ 0 → ⊥) → (n - 1) / 5 + 1 ≡ columnOf line start
   unfolding columnOf
-  column-known h = rw (← e, ← w, le-ltb 15 n h)
+  column-known h = rw (← e, ← w, ne-eqb n 0 h)
 
 module _ (line : List ℕ) (at : ℕ) where
   -- past the end nothing is met

@@ -2,7 +2,7 @@
 use Prim.Native.Nat.{ℕ, _+_, _-_, _/_}
 use mathlib.Core.Bool.{Bool, _&&_, _||_, cond}
 use mathlib.Core.List.{List}
-use lib.Dec.{eqb, ltb}
+use lib.Dec.{eqb}
 use Rattle.math.specs.Parts.{part}
 use Rattle.figures.specs.Text.{bytes}
 use Rattle.lines.specs.Lines.{numberOf}
@@ -17,7 +17,7 @@ columnWords =
 unfoldable pub columnOf : List ℕ → ℕ → ℕ
 columnOf line start =
     let n = numberOf columnWords (part start (scanOf inLetters line start - start) line) in
-    cond (ltb 15 n) 0 ((n + 4) / 5)
+    cond (eqb n 0) 0 ((n - 1) / 5 + 1)
 
 unfoldable pub fitsColumn : List ℕ → ℕ → ℕ → Bool
 fitsColumn line start column = eqb (columnOf line start) 0 || eqb (columnOf line start) column

@@ -1,10 +1,9 @@
 -- One line of a table: three fields, dose, grams and canister, apart by a comma, a semicolon or a tab with spaces around, or by spaces alone. Definitions only.
 use Prim.Native.Nat.{ℕ, _+_, _-_}
-use mathlib.Core.Bool.{Bool, true, false, not, _&&_, _||_, cond}
+use mathlib.Core.Bool.{Bool, not, _&&_, _||_, cond}
 use mathlib.Core.List.{List}
 use lib.Dec.{ltb, leb, eqb}
 use lib.ListN.{length}
-use lib.Ieee.{Float}
 use Rattle.math.specs.Basic.{zero}
 use Rattle.math.specs.Parts.{part}
 use Rattle.decimal.specs.Decimal.{decimalOf}

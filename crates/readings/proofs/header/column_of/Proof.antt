@@ -27,6 +27,9 @@ returns c =
     let a = c .before .before .before .before .before .before .args in
     column-none (a .line .now) (a .start) _ _ (c .before .before .before .before .scan .ensures .0) (c .before .number-of .ensures) (c .if1 .taken)
 
+sub-result : tie.Need-sub-result
+sub-result c = search needs
+
 add-result : tie.Need-add-result
 add-result c = search needs
 
@@ -46,5 +49,6 @@ column-of-spec =
     part-number-of-end
     number-of-requires
     returns
+    sub-result
     add-result
     returns-2)
