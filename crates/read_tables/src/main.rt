@@ -65,6 +65,7 @@ fn commas() {
     shown(b"1 , 2 , a\n");
     shown(b"1,2\n");
     shown(b"1,5,2,5,a\n");
+    shown(b"1 2,a\n");
 }
 
 // Headers whose names are known words in another order.
@@ -74,6 +75,9 @@ fn headers() {
     shown(b"a,b,grams\n1,2,a\n");
     shown(b"# note\n\ngrams dose canister\n");
     shown(b"dosage,gram,can\n1,2,a\n");
+    // Of a name the letters that it begins with count.
+    shown(b"x,dose2,run-1\n1,2,a\n");
+    shown(b"dose2,x,run-1\n1,2,a\n");
 }
 
 fn main() {
