@@ -17,7 +17,7 @@ begin-requires-2 c κs = search needs
 
 returns-2 : tie.Need-returns-2
 unfolding picturedOf
-returns-2 c = rw (ne-eqb _ _ (c .before .before .if1 .left), ne-eqb _ _ (c .before .if2 .taken), c .begin2 .ensures)
+returns-2 c = rw (ne-eqb _ _ (c .before .before .if1 .left), ne-eqb _ 0 (c .before .if2 .taken), c .begin2 .ensures)
 
 draw-requires : tie.Need-draw-requires
 draw-requires c κs = search needs
@@ -27,7 +27,7 @@ same-length c = search needs
 
 returns-3 : tie.Need-returns-3
 unfolding picturedOf
-returns-3 c = rw (ne-eqb _ _ (c .before .before .before .before .before .if1 .left), eq-eqb _ _ (c .before .before .before .before .if2 .left)) (c .before .before .draw .ensures)
+returns-3 c = rw (ne-eqb _ _ (c .before .before .before .before .before .if1 .left), eq-eqb _ 0 (c .before .before .before .before .if2 .left)) (c .before .before .draw .ensures)
 
 pub pictured-spec : {M : Type 1} → statement M
 pictured-spec =
