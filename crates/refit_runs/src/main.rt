@@ -39,7 +39,7 @@ fn beside_r() {
     shown(b"dnase.csv\0");
 }
 
-// A byte order mark, carriage returns, semicolons, a header and a comment.
+// Made-up readings, as a spreadsheet writes them: a byte order mark, carriage returns, semicolons, a header; and a comment.
 fn a_machine() {
     shown(b"machine.csv\0--curve\0SSmicmen\0--svg\0picture.svg\0");
     picture(131072);
