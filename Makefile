@@ -14,10 +14,10 @@
 #   make sample          writes SAMPLE answered lines of OP to OUT                          [rust, cargo, python3]
 #
 # Speed, beside the published Rust (bench/README.md):
-#   make bench           builds the archive, and prints the tables of docs/PERFORMANCE.md   [rust, cargo, python3, gcc, valgrind]
+#   make bench           builds the archive, and prints the tables of docs/PERFORMANCE.md   [rust, cargo, python3, gcc; valgrind for instructions]
 #   make measure         the same with the archive as it stands                             [also archive]
 #   make performance     as bench, into docs/PERFORMANCE.md                                 [as bench]
-#   make instructions    as measure, without times                                          [as measure]
+#   make instructions    as measure, without times                                          [as measure, valgrind]
 #   make trials          rounds and trials of generated fits                                [rust, archive, cargo, python3]
 #
 # What the firmware engineer holds:
