@@ -11,7 +11,7 @@ use linalg::elimination::System;
 use linalg::pair::Solved;
 
 // After the groups: the fixed system that is left, and for each group its solved pair and columns.
-#[derive(Drop)]
+#[derive(Clone, Copy)]
 pub struct Eliminated {
     pub found: bool,
     pub s: System,

@@ -4,7 +4,7 @@ ghost use Rattle.block_solve.specs.Blocks.{fixed_of, fixed_rhs_of, cross_of, ran
 ghost use Rattle.block_solve.specs.Normal.{empty_of, add_reading, accumulate_of, times_of, add_priors, prior_of};
 
 // fixed: 4 by 4. For each group, cross: 4 by 2, random: 2 by 2, random_rhs: 2. All row after row.
-#[derive(Drop)]
+#[derive(Clone, Copy)]
 pub struct BlockNormal {
     pub fixed: [f64; 16],
     pub cross: [f64; 256],

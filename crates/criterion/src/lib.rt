@@ -1,4 +1,6 @@
 // The criterion at one theta: the public operation, over fit.rs's `profile_objective`.
+#![tactic(auto)]
+
 pub mod profile;
 
 ghost use Rattle.std.specs.Prelude.{◌≡◌};
@@ -9,7 +11,7 @@ ghost use Rattle.criterion.specs.Answer.{told, call_of};
 use crate::profile::{Profile, profile_objective};
 use fit::fit;
 
-#[derive(Drop)]
+#[derive(Clone, Copy)]
 pub enum Answer {
     Refused(u64),
     Done(Profile),

@@ -10,7 +10,7 @@ use curves::mean_fn::n_params;
 use fit_penalized::penalties;
 use re_cov::log_det_sigma;
 
-#[derive(Drop)]
+#[derive(Clone, Copy)]
 pub struct Profile {
     pub criterion: f64,
     pub sigma2: f64,

@@ -1,5 +1,7 @@
 // Adaptive Gauss-Hermite quadrature: what it adds to the criterion (fit.rs: `agq_correction` for one
 // effect, `agq_correction_product` for two). At a node only the group's own readings are evaluated.
+#![tactic(auto)]
+
 ghost use Rattle.std.specs.Prelude.{◌≡◌, ◌≤◌, ◌+◌, length, take};
 ghost use Rattle.re_cov.specs.ReCov.{dot_of};
 ghost use Rattle.fit_step.specs.Sized.{Effects};
@@ -15,7 +17,7 @@ use quadrature::sums::log_sum_exp;
 use re_cov::{re_penalty, sigma_inv_from_theta};
 
 // A node in one or two dimensions and the logarithm of its weight.
-#[derive(Drop)]
+#[derive(Clone, Copy)]
 pub struct Node {
     pub z0: f64,
     pub z1: f64,
@@ -23,7 +25,7 @@ pub struct Node {
 }
 
 // What is added, or that there is none.
-#[derive(Drop)]
+#[derive(Clone, Copy)]
 pub enum Correction {
     Added(f64),
     None,

@@ -1,5 +1,7 @@
 // What the determinant and the quadrature both work out group by group: a group's own readings (fit.rs:
 // `group_obs`), their gradients and their sums at effects b. Counts as floats are here too.
+#![tactic(auto)]
+
 ghost use Rattle.std.specs.Prelude.{◌≡◌, ◌≤◌, length, take};
 ghost use Rattle.fit_step.specs.Sized.{Effects};
 ghost use Rattle.criterion_groups.specs.Groups.{count_of, own_of, next_place, size_of, gradients_at, group_squares};

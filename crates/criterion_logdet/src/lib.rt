@@ -1,4 +1,6 @@
 // The log-determinant of the random effects (fit.rs: `random_effect_logdet`).
+#![tactic(auto)]
+
 ghost use Rattle.std.specs.Prelude.{◌≡◌, ◌+◌};
 ghost use Rattle.fit_step.specs.Sized.{Effects};
 ghost use Rattle.criterion_groups.specs.Groups.{Lists};

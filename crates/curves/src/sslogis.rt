@@ -4,7 +4,7 @@ ghost use Rattle.curves.specs.Sslogis.{parts_of, scal_gradient, sslogis_of};
 
 use crate::Mean;
 
-#[derive(Drop)]
+#[derive(Clone, Copy)]
 pub struct Logistic {
     pub fraction: f64,
     pub complement: f64,

@@ -1,4 +1,6 @@
 // The fit at one theta: the public operation.
+#![tactic(auto)]
+
 pub mod run;
 
 ghost use Rattle.std.specs.Prelude.{◌≡◌, ◌≤◌, length, take};
@@ -10,7 +12,7 @@ use fit_refusals::fit_fault;
 use fit_step::State;
 
 // What a fit answers besides the values and effects that it writes.
-#[derive(Drop)]
+#[derive(Clone, Copy)]
 pub struct Fitted {
     pub rss: f64,
     pub converged: bool,
@@ -18,7 +20,7 @@ pub struct Fitted {
     pub trials: usize,
 }
 
-#[derive(Drop)]
+#[derive(Clone, Copy)]
 pub enum Answer {
     Refused(u64),
     Done(Fitted),

@@ -1,4 +1,6 @@
 // One test for each of document 01's numbered faults of a fit, a criterion or a search.
+#![tactic(auto)]
+
 ghost use Rattle.std.specs.Prelude.{◌≡◌, ◌≤◌};
 ghost use Rattle.math.specs.Basic.{is_finite};
 ghost use Rattle.math.specs.Lists.{every};

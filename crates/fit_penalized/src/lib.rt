@@ -1,5 +1,7 @@
 // The penalised sum of a state: the squares of the residuals, and each group's penalty. Its normal
 // blocks are built from the same curves. The fit calls these after all refusals.
+#![tactic(auto)]
+
 pub mod normal;
 
 ghost use Rattle.std.specs.Prelude.{◌≡◌, ◌≤◌, ◌<◌, ◌+◌, ◌*◌, length};

@@ -1,5 +1,7 @@
 // Which of document 01's numbered faults the arguments of a fit, a criterion or a search have first; 0 where
 // they have none.
+#![tactic(auto)]
+
 ghost use Rattle.std.specs.Prelude.{◌≡◌, [], length};
 ghost use Rattle.fit_refusals.specs.Problem.{problem_of};
 ghost use Rattle.fit_refusals.specs.Faults.{first_five, first_from, refusal_of, search_refusal_of};

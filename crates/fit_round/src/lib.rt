@@ -1,6 +1,8 @@
 // One round of a fit (a turn of `inner_gauss_newton_status`): up to 12 attempts, each a direction and up
 // to 20 lengths of it. Each state's curves are worked out once: its trial leaves them in `means`, and
 // the normal blocks of the round that starts from it are built from there.
+#![tactic(auto)]
+
 ghost use Rattle.std.specs.Prelude.{◌≡◌, ◌≤◌, length};
 ghost use Rattle.fit_step.specs.Sized.{Effects, Readings};
 ghost use Rattle.fit_step.specs.Trial.{tried_from};
@@ -14,7 +16,7 @@ use fit_step::State;
 use fit_step::trial::{largest, lower_lambda, raise_lambda, step_size, try_step};
 
 // A state with its rss and its penalised sum.
-#[derive(Drop)]
+#[derive(Clone, Copy)]
 pub struct Evaluated {
     pub state: State,
     pub rss: f64,
@@ -22,7 +24,7 @@ pub struct Evaluated {
 }
 
 // What a round comes to. Where a trial won: its state, the lambda of the next round and the size of the step.
-#[derive(Drop)]
+#[derive(Clone, Copy)]
 pub struct Outcome {
     pub at: Evaluated,
     pub lambda: f64,
@@ -33,7 +35,7 @@ pub struct Outcome {
 }
 
 // What a run of rounds ends in. It stands here since a round's contract says what the round makes of it.
-#[derive(Drop)]
+#[derive(Clone, Copy)]
 pub struct Ended {
     pub state: State,
     pub rss: f64,

@@ -1,4 +1,6 @@
 // The search over theta (`optimize_theta_golden`).
+#![tactic(auto)]
+
 ghost use Rattle.std.specs.Prelude.{◌≡◌, true, []};
 ghost use Rattle.math.specs.Basic.{is_finite};
 ghost use Rattle.fit_refusals.specs.Problem.{problem_of};
@@ -10,7 +12,7 @@ use curves::mean_fn::n_params;
 use fit_refusals::search_fault;
 
 // The ends of the bracket, its inner points and the criterion at each of these.
-#[derive(Drop)]
+#[derive(Clone, Copy)]
 pub struct Bracket {
     pub a: f64,
     pub b: f64,
@@ -21,7 +23,7 @@ pub struct Bracket {
 }
 
 // What a search answers.
-#[derive(Drop)]
+#[derive(Clone, Copy)]
 pub struct Found {
     pub theta: f64,
     pub criterion: f64,
@@ -30,7 +32,7 @@ pub struct Found {
     pub fits: u64,
 }
 
-#[derive(Drop)]
+#[derive(Clone, Copy)]
 pub enum Answer {
     Refused(u64),
     Done(Found),

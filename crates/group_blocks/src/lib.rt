@@ -1,5 +1,7 @@
 // The direction group by group: a group's block, damped and solved; the fixed system less what it takes up; and
 // its effects. block_solve puts these together.
+#![tactic(auto)]
+
 ghost use Rattle.std.specs.Prelude.{◌≡◌, ◌+◌, ◌*◌, ◌≤◌, ◌<◌, replicate, length};
 ghost use Rattle.math.specs.Basic.{zero, is_finite};
 ghost use Rattle.math.specs.Lists.{every};
@@ -10,7 +12,7 @@ use linalg::elimination::System;
 use linalg::pair::Solved;
 
 // A group's block solved for each row of its cross block: column j stands at 2 j.
-#[derive(Drop)]
+#[derive(Clone, Copy)]
 pub struct Columns {
     pub found: bool,
     pub w: [f64; 8],

@@ -1,4 +1,6 @@
 // The C boundary, include/kemroul.h: each function calls the operation and hands its answer on.
+#![tactic(auto)]
+
 ghost use Rattle.std.specs.Prelude.{◌≡◌, [], ◌∷◌, length, eqb, not};
 ghost use Rattle.curves.specs.Curve.{curve_of};
 ghost use Rattle.quadrature.specs.Orders.{order_or_zero};

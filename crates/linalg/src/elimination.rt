@@ -3,14 +3,14 @@ ghost use Rattle.std.specs.Prelude.{◌≡◌, ◌≤◌, ◌<◌};
 ghost use Rattle.linalg.specs.Elimination.{pivot_of, swap_of, clear_row, back_of, eliminate_from, solve_of};
 
 // a x = b. Row i of a stands at 4 i; of n equations the first n rows and columns count.
-#[derive(Drop)]
+#[derive(Clone, Copy)]
 pub struct System {
     pub a: [f64; 16],
     pub b: [f64; 4],
 }
 
 // x with its first n places solved and +0 after, or no solution and +0 in every place.
-#[derive(Drop)]
+#[derive(Clone, Copy)]
 pub struct Solution {
     pub found: bool,
     pub x: [f64; 4],

@@ -4,14 +4,14 @@ ghost use Rattle.linalg.specs.Pair.{rows_of, two_of, pair_of, inverse_of, choles
 
 use math::sqrt::sqrt;
 
-#[derive(Drop)]
+#[derive(Clone, Copy)]
 pub enum Solved {
     Pair(f64, f64),
     None,
 }
 
 // A two by two matrix, row after row, or none.
-#[derive(Drop)]
+#[derive(Clone, Copy)]
 pub enum Matrix {
     Entries(f64, f64, f64, f64),
     None,

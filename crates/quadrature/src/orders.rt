@@ -4,7 +4,7 @@ ghost use Rattle.quadrature.specs.Orders.{order_of, order_or_zero, max_points, p
 
 // The Rust's Option<usize>: a rule's number of points, or that there is none.
 // It is an enum and no 0, so that a caller has to say what is done without a rule.
-#[derive(Drop)]
+#[derive(Clone, Copy)]
 pub enum Order {
     None,
     Points(usize),

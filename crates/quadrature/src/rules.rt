@@ -97,7 +97,7 @@ const GH_W11: [f64; 11] = [
 ];
 
 // A node and its weight.
-#[derive(Drop)]
+#[derive(Clone, Copy)]
 pub struct Point {
     pub z: f64,
     pub w: f64,

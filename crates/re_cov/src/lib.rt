@@ -1,6 +1,8 @@
 // The covariance of one or two random effects from packed theta (re_cov.rs), and one group's penalty.
 // k is the number of effects: 1, and any other counts as 2. Theta holds the lower factor by columns,
 // one number or three. For one effect the entries that are not used are +0.
+#![tactic(auto)]
+
 ghost use Rattle.std.specs.Prelude.{◌≡◌};
 ghost use Rattle.re_cov.specs.ReCov.{lower_chol_of, dot_of, sigma_of, inverse_from, inverse_of, log_det_of, lower_solve_of, penalty_of};
 

@@ -1,6 +1,8 @@
 // Reads a decimal as the nearest float. A decimal of at most 15 significant digits with a power of
 // ten from -22 to 22 needs one operation: the digits and the power are floats without rounding, and
 // their product or quotient rounds once. Every other text is refused.
+#![tactic(auto)]
+
 pub mod parts;
 pub mod scale;
 pub mod scan;
@@ -14,7 +16,7 @@ use crate::scale::scaled;
 
 // The number; or the fault 1 no decimal, 2 more than 15 significant digits, 3 a power of ten out of
 // range.
-#[derive(Drop)]
+#[derive(Clone, Copy)]
 pub enum Decimal {
     Value(f64),
     Fault(u64),

@@ -6,7 +6,7 @@ ghost use Rattle.read_decimal.specs.Parts.{read_mantissa, read_power};
 use crate::scan::{digits_end, number, past, stands};
 
 // All digits as one number, at most 10^15; how many stand after the point; where they end.
-#[derive(Drop)]
+#[derive(Clone, Copy)]
 pub struct Mantissa {
     pub negative: bool,
     pub some: bool,
@@ -16,7 +16,7 @@ pub struct Mantissa {
 }
 
 // The power of ten as it is written, at most 10^15, and whether the text ends right.
-#[derive(Drop)]
+#[derive(Clone, Copy)]
 pub struct Power {
     pub right: bool,
     pub small: bool,

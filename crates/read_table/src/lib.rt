@@ -1,4 +1,6 @@
 // Reads a table of readings: a line for each, with dose, grams and canister.
+#![tactic(auto)]
+
 pub mod classes;
 pub mod enter;
 pub mod header;
@@ -13,7 +15,7 @@ use check::same;
 
 // fault 0, or its number; the number of lines read, which is the line of a fault; the readings
 // entered; the canisters seen.
-#[derive(Drop)]
+#[derive(Clone, Copy)]
 pub struct Table {
     pub fault: u64,
     pub line: u64,

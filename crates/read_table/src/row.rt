@@ -8,7 +8,7 @@ use crate::header::in_order;
 use read_decimal::{Decimal, read_decimal};
 
 // A field's bytes from start to stop, and the place after it and its quotes.
-#[derive(Drop)]
+#[derive(Clone, Copy)]
 pub struct Word {
     pub start: usize,
     pub stop: usize,
@@ -16,7 +16,7 @@ pub struct Word {
 }
 
 // A field, the place after it and the spaces that follow, and the place of the next field.
-#[derive(Drop)]
+#[derive(Clone, Copy)]
 pub struct Field {
     pub start: usize,
     pub stop: usize,
@@ -25,7 +25,7 @@ pub struct Field {
 }
 
 // A number, or the fault of `read_decimal`.
-#[derive(Drop)]
+#[derive(Clone, Copy)]
 pub struct Number {
     pub fault: u64,
     pub value: f64,
@@ -33,7 +33,7 @@ pub struct Number {
 
 // What a line says; its canister's name stands from start to stop. `ordered`: as a header, it names no column in
 // another's place.
-#[derive(Drop)]
+#[derive(Clone, Copy)]
 pub struct Row {
     pub blank: bool,
     pub letters: bool,

@@ -8,7 +8,7 @@ use crate::row::{Row, read_row};
 
 // The place of the next line, the lines read, the readings entered, the canisters seen, whether a
 // line was more than blank, and the fault.
-#[derive(Drop)]
+#[derive(Clone, Copy)]
 pub struct Progress {
     pub at: usize,
     pub line: u64,
@@ -20,7 +20,7 @@ pub struct Progress {
 
 // What a line changes: whether a reading is taken, and whether its canister is new. The new name
 // goes to the places `name` and `name + 1`.
-#[derive(Drop)]
+#[derive(Clone, Copy)]
 pub struct Move {
     pub next: Progress,
     pub take: bool,

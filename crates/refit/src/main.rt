@@ -1,4 +1,6 @@
 // refit: see `refit help`. Here its words are put together; the crate refit_command does what they ask.
+#![tactic(auto)]
+
 use libc::{STDERR_FILENO, STDOUT_FILENO};
 
 // Word i after those that end at a place, and a 0 after it: where it ends, or one more than there is room for.

@@ -1,4 +1,6 @@
 // Start values, the search over theta, and the fit and criterion there, with no bounds.
+#![tactic(auto)]
+
 ghost use Rattle.std.specs.Prelude.{◌≡◌, []};
 ghost use Rattle.fit_refusals.specs.Problem.{problem_of};
 ghost use Rattle.refit_calculation.specs.Refit.{nothing_but, with_criterion, with_fit, with_search, is_adjusted, adjusted_of, with_starts, refit_of};
@@ -15,7 +17,7 @@ pub const NARROWINGS: u64 = 60;
 
 // What was found. Stage 0: all of it; 1 or 2 or 3: the start, the search or the fit was refused by this number.
 // `adjusted`: the self-start's third value was not taken as it is.
-#[derive(Drop)]
+#[derive(Clone, Copy)]
 pub struct Answer {
     pub stage: u64,
     pub refused: u64,

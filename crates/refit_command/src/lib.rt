@@ -1,5 +1,7 @@
 // The command `refit`: see `refit help`. The work is done by the crate refit_report, on slices; here are the words, the files, and
 // what is written where.
+#![tactic(auto)]
+
 pub mod starts;
 pub mod words;
 
@@ -9,7 +11,7 @@ use refit_options::options::Options;
 use refit_run::Outcome;
 
 // The descriptors for what is asked for, and for faults.
-#[derive(Drop)]
+#[derive(Clone, Copy)]
 struct Ends {
     out: i32,
     err: i32,

@@ -3,7 +3,7 @@ use crate::words::end_from;
 use read_decimal::{Decimal, read_decimal};
 
 // The first `count` of four values; 5 where there are more, or where a number is none.
-#[derive(Drop)]
+#[derive(Clone, Copy)]
 pub struct Starts {
     pub count: usize,
     pub values: [f64; 4],

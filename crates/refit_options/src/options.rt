@@ -10,7 +10,7 @@ use text_lines::words::{number_of, word};
 // What is asked for. `prints` is 1 for the help and 2 for the version. `awaits` is the option whose word comes next: 1 curve,
 // 2 effect, 3 quadrature, 4 svg, 5 start; `said` tells those that were said, and the method at 6. The file, the picture and
 // the start values are numbers of words; 0 is none. `fault` is 0, or the fault of word `at`.
-#[derive(Drop)]
+#[derive(Clone, Copy)]
 pub struct Options {
     pub fault: u64,
     pub at: usize,

@@ -1,4 +1,6 @@
 // The report: after its beginning the start values, theta, the fit, then the tables, and what is to be warned of.
+#![tactic(auto)]
+
 pub mod beginning;
 
 ghost use Rattle.std.specs.Prelude.{◌≡◌, cond, not, ◌&&◌, [], eqb};

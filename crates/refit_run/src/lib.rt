@@ -1,6 +1,8 @@
 // The refit of readings, and what a person is told of it. No file is read or written here: `run` takes the readings, the
 // text that they were read from, which has the canisters' names, and the options, and writes the report, and the picture if
 // one is asked for, into lent buffers.
+#![tactic(auto)]
+
 ghost use Rattle.std.specs.Prelude.{◌≡◌, ◌≤◌, length};
 ghost use Rattle.std.proofs.Math.Seq.{paste};
 ghost use Rattle.refit_run.specs.Run.{refused_with, pictured_of, told_of, answer_of, fault_of, InReach, run_of};
@@ -14,7 +16,7 @@ use refit_warnings::warnings;
 use text_buffer::Place;
 
 // A fault, or else how far the report and the picture were written.
-#[derive(Drop)]
+#[derive(Clone, Copy)]
 pub struct Outcome {
     pub fault: u64,
     pub report: Place,

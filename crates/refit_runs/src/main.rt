@@ -1,4 +1,6 @@
 // Runs the command `refit` on the files of data/, and writes what it writes: reports and pictures, and why a run is refused.
+#![tactic(auto)]
+
 use libc::STDOUT_FILENO;
 use refit_command::command;
 

@@ -1,4 +1,6 @@
 // The two tables of a report: each canister's own curve, and each reading beside its curve.
+#![tactic(auto)]
+
 ghost use Rattle.std.specs.Prelude.{◌≡◌, length, get_or};
 ghost use Rattle.math.specs.Basic.{abs_of, max_of};
 ghost use Rattle.text_buffer.specs.Text.{wrote};

@@ -1,4 +1,6 @@
 // What a report of a refit has to warn of: where its numbers are not to be used, or mean less than they seem to.
+#![tactic(auto)]
+
 pub mod told;
 
 ghost use Rattle.std.specs.Prelude.{◌≡◌, ◌&&◌, ◌+◌, ◌^◌, ◌<◌, ◌≤◌};
@@ -7,7 +9,7 @@ ghost use Rattle.refit_warnings.specs.Warnings.{added_of, sum_of, mean_of, squar
 use refit_calculation::Answer;
 
 // How many readings there are, as a float, and the sum of their grams.
-#[derive(Drop)]
+#[derive(Clone, Copy)]
 pub struct Sum {
     pub count: f64,
     pub total: f64,

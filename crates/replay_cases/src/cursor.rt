@@ -8,27 +8,27 @@ use crate::digits::{Number, Real, decimal, float_of};
 use check::same;
 
 // The next word starts at `at`; past the last word `at` is the line's length and one.
-#[derive(Drop)]
+#[derive(Clone, Copy)]
 pub struct Cursor {
     pub at: usize,
     pub ok: bool,
 }
 
 // The bytes from start to end, and the place after them.
-#[derive(Drop)]
+#[derive(Clone, Copy)]
 pub struct NextWord {
     pub start: usize,
     pub end: usize,
     pub next: Cursor,
 }
 
-#[derive(Drop)]
+#[derive(Clone, Copy)]
 pub struct NextWhole {
     pub value: u64,
     pub next: Cursor,
 }
 
-#[derive(Drop)]
+#[derive(Clone, Copy)]
 pub struct NextFloat {
     pub value: f64,
     pub next: Cursor,

@@ -5,13 +5,13 @@ ghost use Rattle.replay_cases.specs.Digits.{digit_of, number_of, hex_of, decimal
 use check::same;
 use math::words::of_bits;
 
-#[derive(Drop)]
+#[derive(Clone, Copy)]
 pub enum Number {
     Is(u64),
     Fault,
 }
 
-#[derive(Drop)]
+#[derive(Clone, Copy)]
 pub enum Real {
     Is(f64),
     Fault,

@@ -12,7 +12,7 @@ ghost use Rattle.replay_cases.specs.Lines.{Advanced};
 
 use libc::STDIN_FILENO;
 
-#[derive(Drop)]
+#[derive(Clone, Copy)]
 pub struct Run {
     // turns that are left; 0 when the input has ended
     pub turns: u64,

@@ -5,7 +5,7 @@ ghost use Rattle.replay_cases.specs.Lists.{length_at, list_at, over_front, float
 use crate::cursor::{Cursor, float, whole};
 
 // The length, and the place after the last element.
-#[derive(Drop)]
+#[derive(Clone, Copy)]
 pub struct Counted {
     pub len: usize,
     pub next: Cursor,

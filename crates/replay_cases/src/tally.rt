@@ -7,14 +7,14 @@ use crate::lines::{Run, more};
 use libc::STDOUT_FILENO;
 
 // What a judge says of a line: the operation's place, and whether the answers agree.
-#[derive(Drop)]
+#[derive(Clone, Copy)]
 pub enum Verdict {
     Agrees(usize),
     Differs(usize),
     Malformed,
 }
 
-#[derive(Drop)]
+#[derive(Clone, Copy)]
 pub struct Tally {
     pub lines: [u64; 4],
     pub agree: [u64; 4],

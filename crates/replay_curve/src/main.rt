@@ -4,6 +4,8 @@
 //     gh_order ASKED = NUMBER
 //
 // and what curves and quadrature compute must be the number and have the bits of the floats.
+#![tactic(auto)]
+
 ghost use Rattle.replay_cases.specs.Tally.{Sound};
 
 use curves::Answer;
@@ -12,7 +14,7 @@ use replay_cases::lent::kept;
 use replay_cases::tally::{Tally, Verdict};
 
 // A number, 0 or a refusal's, and the mean and its gradients as the call leaves them.
-#[derive(Drop)]
+#[derive(Clone, Copy)]
 struct Outputs {
     number: u64,
     floats: [f64; 5],

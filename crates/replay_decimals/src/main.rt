@@ -1,5 +1,7 @@
 // Reads the decimals of standard input, one a line, and writes the bits of each, or its fault. What
 // it must write was made by Python's `float`, which rounds correctly.
+#![tactic(auto)]
+
 use libc::STDOUT_FILENO;
 use read_decimal::{Decimal, read_decimal};
 

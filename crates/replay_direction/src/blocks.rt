@@ -5,7 +5,7 @@ use replay_cases::cursor::Cursor;
 use replay_cases::lists::floats;
 
 // Matrices of so many rows and columns, in blocks of height and width.
-#[derive(Drop)]
+#[derive(Clone, Copy)]
 pub struct Shape {
     pub rows: usize,
     pub columns: usize,

@@ -9,7 +9,7 @@ use replay_cases::same::same_floats;
 use replay_cases::tally::{Verdict, verdict_of};
 
 // An answer as it stands in a line: whether there is one, how many floats it has, and the place after it.
-#[derive(Drop)]
+#[derive(Clone, Copy)]
 struct Stored {
     found: bool,
     len: usize,
@@ -17,7 +17,7 @@ struct Stored {
 }
 
 // At most four floats, and whether there is an answer; places without a float hold +0.
-#[derive(Drop)]
+#[derive(Clone, Copy)]
 struct Four {
     found: bool,
     x: [f64; 4],
@@ -120,7 +120,7 @@ pub fn judge_cholesky(line: &[u8], c: Cursor) -> Verdict {
 }
 
 // A direction's sizes and blocks, and the place after them.
-#[derive(Drop)]
+#[derive(Clone, Copy)]
 struct NextBlocks {
     p: usize,
     k: usize,

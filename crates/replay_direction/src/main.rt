@@ -7,6 +7,8 @@
 //
 // with matrices row after row, and ANSWER is `1 LIST`, or `0` where there is none. What linalg and
 // block_solve compute must be that, and have the bits of the floats.
+#![tactic(auto)]
+
 mod blocks;
 mod judges;
 

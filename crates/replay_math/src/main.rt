@@ -1,5 +1,7 @@
 // Replays fdlibm's answers: each line of standard input is `exp X = Y`, `ln X = Y` or `sqrt X = Y`,
 // and what math computes at X must have the bits of Y. All NaNs count as one value.
+#![tactic(auto)]
+
 ghost use Rattle.replay_cases.specs.Tally.{Sound};
 
 use replay_cases::cursor::{Cursor, begin, finished, float, named};

@@ -8,7 +8,7 @@ use replay_cases::same::same_float;
 use replay_cases::tally::{Verdict, verdict_of};
 
 // The returned number, 0 or the refusal, and what stands in the single outputs after the call.
-#[derive(Drop)]
+#[derive(Clone, Copy)]
 pub struct Told {
     pub number: u64,
     pub rss: f64,
@@ -18,7 +18,7 @@ pub struct Told {
 }
 
 // A line's answer and the place after it.
-#[derive(Drop)]
+#[derive(Clone, Copy)]
 pub struct Stored {
     pub told: Told,
     pub lists: Lists,

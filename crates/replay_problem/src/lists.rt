@@ -4,7 +4,7 @@ use replay_cases::lent::{begins_with, kept};
 use replay_cases::lists::floats;
 
 // The lists, their lengths, and the place after them.
-#[derive(Drop)]
+#[derive(Clone, Copy)]
 pub struct Lists {
     pub values: [f64; 8],
     pub n_values: usize,

@@ -13,6 +13,8 @@
 //         LIST(group_lower) LIST(group_upper)
 //
 // and what the call answers and writes must be the numbers and have the bits of the floats.
+#![tactic(auto)]
+
 mod case;
 mod criteria;
 mod fits;

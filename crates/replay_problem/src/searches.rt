@@ -6,7 +6,7 @@ use replay_cases::same::same_float;
 use replay_cases::tally::{Verdict, verdict_of};
 
 // The returned number, 0 or the refusal, and what stands in the single outputs after the call.
-#[derive(Drop)]
+#[derive(Clone, Copy)]
 pub struct Told {
     pub number: u64,
     pub theta: f64,
@@ -17,7 +17,7 @@ pub struct Told {
 }
 
 // A line's answer, and the place after it.
-#[derive(Drop)]
+#[derive(Clone, Copy)]
 pub struct Stored {
     pub told: Told,
     pub next: Cursor,

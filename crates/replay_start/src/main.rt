@@ -3,6 +3,8 @@
 //     start CODE LIST(doses) LIST(grams) N_VALUES = NUMBER LIST(values)
 //
 // and what self_start computes must be the number and have the bits of the values.
+#![tactic(auto)]
+
 ghost use Rattle.replay_cases.specs.Tally.{Sound};
 
 use replay_cases::cursor::{Cursor, begin, finished, named, whole};

@@ -1,5 +1,7 @@
 // Reads small tables, good and bad, into lists of four readings and two canisters, and writes for
 // each its fault, line, readings and canisters.
+#![tactic(auto)]
+
 use libc::STDOUT_FILENO;
 use read_table::read_table;
 

@@ -7,7 +7,7 @@ use math::words::{to_float, to_int};
 use text_floats::{Scaled, in_tens, nearest};
 
 // From first * step to (first + count) * step, labelled with so many decimals; count 0 where there is no such axis.
-#[derive(Drop)]
+#[derive(Clone, Copy)]
 pub struct Axis {
     pub first: f64,
     pub count: u64,

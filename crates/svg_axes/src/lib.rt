@@ -1,4 +1,6 @@
 // What a picture shows of the readings and the curves, and where a value stands in its frame.
+#![tactic(auto)]
+
 pub mod axes;
 pub mod ranges;
 

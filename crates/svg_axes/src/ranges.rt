@@ -4,7 +4,7 @@ ghost use Rattle.svg_axes.specs.Ranges.{wider_by, list_range, sample_of, with_cu
 
 use crate::curve_at;
 
-#[derive(Drop)]
+#[derive(Clone, Copy)]
 pub struct Range {
     pub lo: f64,
     pub hi: f64,

@@ -1,5 +1,7 @@
 // A number of the picture, and the colour and the shape of a canister's marks: eight colours that the colour-blind tell apart (Okabe and Ito, with grey
 // in place of yellow, which is too light on white) and five shapes. No two of 32 canisters have both alike.
+#![tactic(auto)]
+
 pub mod escape;
 
 ghost use Rattle.std.specs.Prelude.{◌≡◌};

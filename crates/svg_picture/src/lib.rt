@@ -1,4 +1,6 @@
 // A picture of the readings with each canister's fitted curve, as SVG: 960 by 510, the frame from 70 to 670 and from 50 to 450.
+#![tactic(auto)]
+
 pub mod frame;
 
 ghost use Rattle.std.specs.Prelude.{◌≡◌, length};

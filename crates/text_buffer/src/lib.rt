@@ -1,11 +1,13 @@
 // Text for a person, written into a lent buffer. What does not fit is told: a place that is full stays full, and
 // its caller asks once, at the end.
+#![tactic(auto)]
+
 ghost use Rattle.std.specs.Prelude.{◌≡◌, min};
 ghost use Rattle.std.proofs.Math.Seq.{slice};
 ghost use Rattle.text_buffer.specs.Text.{start, wrote, wrote_byte, whole_text};
 
 // How many bytes of the buffer are written, and whether something did not fit.
-#[derive(Drop)]
+#[derive(Clone, Copy)]
 pub struct Place {
     pub at: usize,
     pub full: bool,

@@ -1,6 +1,8 @@
 // A float in decimal digits. With a given number of decimals the digits are those of the whole number nearest to the
 // float product |x| * 10^decimals, half way up: the product is rounded once, so the last digit can be off
 // where x lies within that rounding of a half.
+#![tactic(auto)]
+
 ghost use Rattle.std.specs.Prelude.{◌≡◌, ◌/◌, ◌^◌, ◌≤◌, length};
 ghost use Rattle.math.specs.Basic.{mul, abs_of};
 ghost use Rattle.text_buffer.specs.Text.{wrote};
@@ -117,7 +119,7 @@ pub fn decimals(x: f64) -> u64
 }
 
 // A number of decimals without the zeros at its end.
-#[derive(Drop)]
+#[derive(Clone, Copy)]
 struct Short {
     n: u64,
     d: u64,
@@ -162,7 +164,7 @@ pub fn figure(out: &mut [u8], p: Place, x: f64) -> Place
 
 // A size of about mantissa * 10^power, or mantissa / 10^power where it is small, the mantissa at least 1 and below 10: by
 // divisions and products by ten, each rounded.
-#[derive(Drop)]
+#[derive(Clone, Copy)]
 pub struct Scaled {
     pub mantissa: f64,
     pub power: u64,
@@ -225,7 +227,7 @@ pub fn in_tens(x: f64) -> Scaled
 }
 
 // n / 10^6 with a power of ten.
-#[derive(Drop)]
+#[derive(Clone, Copy)]
 struct Digits {
     n: u64,
     power: u64,

@@ -1,4 +1,6 @@
 // Executes document 01's weighings and fdlibm comparisons, a line for each with `ok` or `WRONG`.
+#![tactic(auto)]
+
 mod calls;
 mod elementary;
 mod readings;
