@@ -2,7 +2,6 @@
 use Rattle.std.specs.Prelude.{ℕ, cond, ℤ, pos, negsuc, ◌+ℤ◌, ◌==◌, int_le, nat_le, nat_lt, Float}
 use Rattle.std.specs.Float.{binary64}
 use Rattle.std.specs.Float.Ieee.{lt, of_int}
-use Rattle.std.specs.Float.Ieee as Ieee
 use Rattle.math.specs.Basic.{add, sub, mul, div, bits, zero, half, one, two}
 use Rattle.math.specs.Words.{pattern, sign_bit, high_word, digits, add_exp, to_int, with_sign, is_zero}
 

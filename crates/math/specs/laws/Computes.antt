@@ -1,7 +1,7 @@
 -- What opens exp, ln and the square root for computation.
 use Rattle.std.specs.Float.Ieee.{lt, of_bits, to_bits, of_int, eq}
 use Rattle.std.specs.Float.Ieee as Ieee
-use Rattle.math.specs.Basic.{add, sub, mul, div, is_finite}
+use Rattle.math.specs.Basic.{is_finite}
 use Rattle.math.specs.Words.{low12, add_exp, to_int, with_sign, is_zero}
 use Rattle.math.specs.Exp.{poly_of, scale_of, primary_of, far_of, near_of, reduced_of, ends_of, large_of, exp_of}
 use Rattle.math.specs.Ln.{tiny_of, mid_of, side_of, series_of, body_of, normal_of, ln_of}
