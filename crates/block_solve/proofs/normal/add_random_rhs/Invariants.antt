@@ -1,0 +1,13 @@
+use mathlib.Core.Path.{◌≡◌}
+use Prim.Native.Nat.{◌-◌, ◌≤◌}
+use native.Mathlib.Omega.{arith}
+use Rattle.math.specs.Loops.{iter}
+use Rattle.math.specs.laws.Loops.{iter_none, iter_more, iter_all}
+use Rattle.block_solve.specs.Blocks.{random_rhs_in, random_rhs_of}
+use Rattle.block_solve.proofs.normal.add_random_rhs.Given as goal
+
+abbrev pub invariant-loop-i : goal.invariant-loop-i
+invariant-loop-i l = (l.i ≤ l.k) × (l.rhs ≡ iter (random_rhs_in l.group l.r l.y) l.i l.initial.rhs)
+
+abbrev pub decreases-loop-i : goal.decreases-loop-i
+decreases-loop-i l = l.k - l.i

@@ -1,0 +1,16 @@
+use mathlib.Core.Path.{◌≡◌}
+use Prim.Native.Nat.{◌-◌, ◌≤◌}
+use Rattle.math.specs.Loops.{iter}
+use Rattle.math.specs.laws.Loops.{iter_none, iter_more, iter_all}
+use lib.ListN.{length, get_or}
+use lib.Dec.{eqb}
+use Rattle.criterion_groups.specs.Groups.{size_at, size_of}
+use Rattle.criterion_groups.proofs.Laws.{place_few}
+use native.Mathlib.Omega.{arith}
+use Rattle.criterion_groups.proofs.group_size.Given as goal
+
+abbrev pub invariant-loop-i : goal.invariant-loop-i
+invariant-loop-i l = (l.i ≤ length l.group) × ((l.n ≤ l.i) × (l.n ≡ iter (size_at l.group l.g) l.i 0))
+
+abbrev pub decreases-loop-i : goal.decreases-loop-i
+decreases-loop-i l = length l.group - l.i

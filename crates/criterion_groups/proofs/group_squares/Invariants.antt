@@ -1,0 +1,16 @@
+use mathlib.Core.Path.{◌≡◌}
+use Prim.Native.Nat.{◌-◌, ◌≤◌}
+use Rattle.math.specs.Loops.{iter}
+use Rattle.math.specs.laws.Loops.{iter_none, iter_more, iter_all}
+use lib.ListN.{length}
+use Rattle.math.specs.Basic.{zero}
+use Rattle.criterion_groups.specs.Groups.{square_at, group_squares}
+use borrow.Author.Rules.{rules}
+use native.Mathlib.Omega.{arith}
+use Rattle.criterion_groups.proofs.group_squares.Given as goal
+
+abbrev pub invariant-loop-i : goal.invariant-loop-i
+invariant-loop-i l = (l.i ≤ length l.doses) × (l.t ≡ iter (square_at l.code l.effects l.values l.b l.doses l.grams) l.i zero)
+
+abbrev pub decreases-loop-i : goal.decreases-loop-i
+decreases-loop-i l = length l.doses - l.i

@@ -1,0 +1,15 @@
+use mathlib.Core.Path.{◌≡◌, refl, sym, ap, ◌∙◌}
+use Prim.Native.Nat.{◌+◌, ◌-◌, ◌≤◌}
+use Rattle.math.specs.Basic.{add, mul, two}
+use Rattle.criterion_logdet.specs.LogDet.{logdet_from}
+use Rattle.criterion_groups.proofs.Laws.{lists_at}
+use Rattle.criterion_logdet.proofs.Laws.{logdet_begins, logdet_stop, logdet_go, logdet_done}
+use borrow.Author.Rules.{rules}
+use native.Mathlib.Omega.{arith}
+use Rattle.criterion_logdet.proofs.random_effect_logdet.Given as goal
+
+abbrev pub invariant-loop-g : goal.invariant-loop-g
+invariant-loop-g l = (l.g ≤ l.groups) × (logdet_from l.code l.effects l.values l.doses l.group l.theta l.b (l.groups - l.g) l.g l.total ≡ logdet_from l.code l.effects l.values l.doses l.group l.theta l.b (l.groups - 0) 0 l.initial.total)
+
+abbrev pub decreases-loop-g : goal.decreases-loop-g
+decreases-loop-g l = l.groups - l.g

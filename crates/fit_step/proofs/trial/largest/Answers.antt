@@ -1,0 +1,21 @@
+-- t is the largest size among the first i components, from +0 on.
+use mathlib.Core.Path.{◌≡◌}
+use Prim.Native.Nat.{◌-◌, ◌≤◌}
+use native.Mathlib.Omega.{arith}
+use borrow.Author.Rules.{rules}
+use lib.ListN.{length}
+use Rattle.math.specs.Basic.{zero}
+use Rattle.math.specs.Loops.{iter}
+use Rattle.math.specs.laws.Loops.{iter_all, iter_more, iter_none}
+use Rattle.fit_step.specs.Trial.{larger_at, largest_of}
+use Rattle.fit_step.proofs.trial.largest.Goals as goal
+
+pub loop-i-init : goal.loop-i-init
+loop-i-init c = (omega arith, iter_none _ _)
+
+pub loop-i-preserved : goal.loop-i-preserved
+loop-i-preserved c = (omega arith, rw (c.max-t.ensures, c.abs.ensures) (iter_more _ _ _ c.loop-i.invariant.1))
+
+pub returns : goal.returns
+unfolding largest_of
+returns c = iter_all _ (length c.args.d.now) _ _ c.loop-i.invariant.1 c.loop-i.invariant.0 c.loop-i-test.false

@@ -1,0 +1,14 @@
+use mathlib.Core.Path.{◌≡◌, ◌∙◌}
+use Prim.Native.Nat.{◌-◌, ◌+◌, ◌≤◌, ◌<◌}
+use Rattle.math.specs.Loops.{span}
+use Rattle.math.specs.laws.Loops.{span_none, span_more, span_all}
+use mathlib.Core.Logic.{⊎_elim}
+use Rattle.linalg.specs.Elimination.{better, pivot_of}
+use native.Mathlib.Omega.{arith}
+use Rattle.linalg.proofs.elimination.pivot_row.Given as goal
+
+abbrev pub invariant-loop-r : goal.invariant-loop-r
+invariant-loop-r l = (l.best < l.n) × ((l.i + 1 ≤ l.r) × ((l.r ≤ l.n) × (l.best ≡ span (better l.a l.i) (l.i + 1) l.r l.i)))
+
+abbrev pub decreases-loop-r : goal.decreases-loop-r
+decreases-loop-r l = l.n - l.r

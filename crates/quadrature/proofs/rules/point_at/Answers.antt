@@ -1,0 +1,6 @@
+-- Node and weight are read at one index, each by `at`.
+use borrow.Author.Rules.{rules}
+use Rattle.quadrature.proofs.rules.point_at.Goals as goal
+
+pub returns : goal.returns
+returns c = rw (c.at.ensures, c.at-2.ensures)

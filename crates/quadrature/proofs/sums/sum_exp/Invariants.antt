@@ -1,0 +1,15 @@
+use mathlib.Core.Path.{◌≡◌, refl, sym, ap, ◌∙◌}
+use mathlib.Core.List.{foldl}
+use Prim.Native.Nat.{◌-◌, ◌+◌}
+use native.Mathlib.Omega.{arith}
+use lib.ListN.{length, drop}
+use Rattle.math.specs.Basic.{add}
+use Rattle.quadrature.specs.Sums.{add_exp}
+use Rattle.quadrature.proofs.SumLaws.{foldl_go, foldl_done}
+use Rattle.quadrature.proofs.sums.sum_exp.Given as goal
+
+abbrev pub invariant-loop-i : goal.invariant-loop-i
+invariant-loop-i l = foldl (add_exp l.m) l.s (drop l.i l.xs) ≡ foldl (add_exp l.m) l.initial.s l.xs
+
+abbrev pub decreases-loop-i : goal.decreases-loop-i
+decreases-loop-i l = length l.xs - l.i

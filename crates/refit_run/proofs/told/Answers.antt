@@ -1,0 +1,6 @@
+-- The warnings, the report and the picture. Assumes nothing.
+use borrow.Author.Rules.{rules}
+use Rattle.refit_run.proofs.told.Goals as goal
+
+pub returns : goal.returns
+returns c = rw (← c.warnings-w.ensures, ← c.report-p.ensures, ← c.first.ensures, ← c.pictured-q.ensures)

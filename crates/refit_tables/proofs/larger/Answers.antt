@@ -1,0 +1,6 @@
+-- `max` and `abs` promise what the contract says. Assumes nothing.
+use borrow.Author.Rules.{rules}
+use Rattle.refit_tables.proofs.larger.Goals as goal
+
+pub returns : goal.returns
+returns c = rw (← c.abs.ensures) c.max.ensures

@@ -1,0 +1,20 @@
+-- The values before i are written, each by `own_value`. Assumes nothing.
+use mathlib.Core.Path.{◌≡◌}
+use Prim.Native.Nat.{◌≤◌, ◌-◌}
+use native.Mathlib.Omega.{arith}
+use lib.ListN.{length}
+use Rattle.text_buffer.specs.Text.{wrote}
+use Rattle.svg_marks.proofs.Laws.{each_none, each_more, each_all}
+use Rattle.svg_marks.specs.Escape.{each}
+use Rattle.refit_tables.specs.Tables.{own_text}
+use borrow.Author.Rules.{rules}
+use Rattle.refit_tables.proofs.own_values.Goals as goal
+
+pub loop-i-init : goal.loop-i-init
+loop-i-init c = (search rules, each_none _ _ _)
+
+pub loop-i-preserved : goal.loop-i-preserved
+loop-i-preserved c = (search rules, each_more _ _ _ _ _ _ _ _ c.loop-i.invariant.1 c.own_value-q.ensures)
+
+pub returns : goal.returns
+returns c = let so_far = c.loop-i.invariant in each_all _ _ _ _ _ _ _ so_far.1 so_far.0.0 (omega arith)

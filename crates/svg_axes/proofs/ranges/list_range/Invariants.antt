@@ -1,0 +1,12 @@
+use Rattle.std.proofs.Common.{◌≡◌, ◌-◌, ◌≤◌, length, get_or, ◌∙◌, arith}
+use lib.Ieee.{nan, neg}
+use Rattle.math.specs.Loops.{iter}
+use Rattle.math.specs.laws.Loops.{iter_none, iter_more, iter_all}
+use Rattle.svg_axes.specs.Ranges.{wider_by, list_range, no_range}
+use Rattle.svg_axes.proofs.ranges.list_range.Given as goal
+
+abbrev pub invariant-loop-i : goal.invariant-loop-i
+invariant-loop-i l = (l.i ≤ length l.list) × (l.r ≡ iter (λ k q. wider_by q (get_or l.list k nan)) l.i no_range)
+
+abbrev pub decreases-loop-i : goal.decreases-loop-i
+decreases-loop-i l = length l.list - l.i

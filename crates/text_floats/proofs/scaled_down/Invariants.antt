@@ -1,0 +1,10 @@
+use Rattle.std.proofs.Common.{◌≡◌, ◌-◌, ◌≤◌, sym, refl, ◌∙◌, rules}
+use Rattle.text_floats.specs.Floats.{divided}
+use Rattle.text_floats.proofs.FloatLaws.{divided_stop, divided_go, divided_done}
+use Rattle.text_floats.proofs.scaled_down.Given as goal
+
+abbrev pub invariant-loop-e : goal.invariant-loop-e
+invariant-loop-e l = (l.e ≤ 400) × (divided (400 - l.e) l.e l.m ≡ divided 400 0 l.x)
+
+abbrev pub decreases-loop-e : goal.decreases-loop-e
+decreases-loop-e l = 400 - l.e

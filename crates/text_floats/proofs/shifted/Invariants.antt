@@ -1,0 +1,10 @@
+use Rattle.std.proofs.Common.{◌≡◌, ◌-◌, ◌^◌, ◌≤◌, refl, ap, ◌∙◌, arith, rules}
+use Rattle.text_floats.specs.Floats.{tens}
+use Rattle.text_floats.proofs.FloatLaws.{ten_small, ten_more}
+use Rattle.text_floats.proofs.shifted.Given as goal
+
+abbrev pub invariant-loop-i : goal.invariant-loop-i
+invariant-loop-i l = (l.i ≤ l.d) × (l.power ≡ 10 ^ l.i)
+
+abbrev pub decreases-loop-i : goal.decreases-loop-i
+decreases-loop-i l = l.d - l.i

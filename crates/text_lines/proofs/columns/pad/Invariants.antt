@@ -1,0 +1,16 @@
+use Prim.Native.Nat.{◌-◌}
+use mathlib.Core.Path.{◌≡◌, refl, ◌∙◌}
+use borrow.Author.Rules.{rules}
+use native.Mathlib.Omega.{arith}
+use lib.ListN.{length}
+use Rattle.text_buffer.specs.Text.{wrote}
+use Rattle.text_lines.specs.Lines.{spaces}
+use Rattle.text_buffer.specs.laws.Text.{byte_then, stays}
+use Rattle.text_lines.proofs.Lines.{spaces_next, spaces_none}
+use Rattle.text_lines.proofs.columns.pad.Given as goal
+
+abbrev pub invariant-loop-i : goal.invariant-loop-i
+invariant-loop-i l = (length l.out ≡ length l.initial.out) × (wrote l.out l.q (spaces (l.width - l.i)) ≡ wrote l.initial.out l.initial.q (spaces (l.width - l.n)))
+
+abbrev pub decreases-loop-i : goal.decreases-loop-i
+decreases-loop-i l = l.width - l.i

@@ -1,0 +1,20 @@
+-- Where a float is left it is written with one decimal; else the definition has `?` too. Assumes nothing.
+use mathlib.Core.Path.{ap, ◌∙◌}
+use native.Mathlib.Omega.{arith}
+use Rattle.text_buffer.specs.Text.{wrote}
+use Rattle.text_lines.specs.Lines.{one_decimal}
+use Rattle.text_buffer.specs.laws.Text.{byte_one}
+use Rattle.text_lines.proofs.Filling.{next_some, next_none}
+use borrow.Author.Rules.{rules}
+use Rattle.text_lines.proofs.template.next_fixed.Goals as goal
+
+pub returns-then-k-floats : goal.returns-then-k-floats
+unfolding one_decimal
+returns-then-k-floats c =
+    let a = c.args in
+    c.fixed.ensures ∙ ap (wrote _ _) (next_some one_decimal a.floats.now a.k _ (omega arith))
+
+pub returns : goal.returns
+returns c =
+    let a = c.args in
+    byte_one _ _ _ _ _ c.byte.ensures ∙ ap (wrote _ _) (next_none one_decimal a.floats.now a.k (omega arith))
