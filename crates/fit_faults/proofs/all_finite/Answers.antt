@@ -17,13 +17,13 @@ pub returns-then-not-is_finite : goal.returns-then-not-is_finite
 returns-then-not-is_finite c =
     let l = c.loop-i in
     let a = c.args in
-    sym (every_stop is_finite a.list.now l.i nan c.loop-i-test.true (sym c.is_finite.ensures ∙ not-true _ c.if-not-is_finite.true)) ∙ l.invariant.1
+    sym (every_stop is_finite a.list.now l.i nan c.loop-i-test.true (sym c.is_finite.ensures ∙ c.if-not-is_finite.true)) ∙ l.invariant.1
 
 pub loop-i-preserved : goal.loop-i-preserved
 loop-i-preserved c =
     let l = c.loop-i in
     let a = c.args in
-    (omega arith, every_go is_finite a.list.now l.i nan c.loop-i-test.true (sym c.is_finite.ensures ∙ not-false _ c.if-not-is_finite.false) ∙ l.invariant.1)
+    (omega arith, every_go is_finite a.list.now l.i nan c.loop-i-test.true (sym c.is_finite.ensures ∙ c.if-not-is_finite.false) ∙ l.invariant.1)
 
 pub returns : goal.returns
 returns c = sym (every_done is_finite c.args.list.now c.loop-i.i c.loop-i-test.false) ∙ c.loop-i.invariant.1

@@ -75,7 +75,9 @@ loop-i-preserved c =
 pub returns : goal.returns
 unfolding squares_of
 returns c =
-    let l = c.loop-i in (
-      iter_all _ (length c.args.doses.now) _ _ l.invariant.1.1.0 l.invariant.0 c.loop-i-test.false,
+    let l = c.loop-i in record {
+      rss = iter_all _ (length c.args.doses.now) _ _ l.invariant.1.1.0 l.invariant.0 c.loop-i-test.false;
+      kept = (
       record { room = l.invariant.1.0; held = λ j h. l.invariant.1.1.1 j (omega arith) },
-    )
+    );
+    }

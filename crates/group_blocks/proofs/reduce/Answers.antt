@@ -24,7 +24,7 @@ loop-i-preserved c =
     let o = c.loop-i in
     let t = c.loop-j.invariant in
     let e = span_all _ 0 a.p _ _ t.1.0 t.0 c.loop-j-test.false in
-    (omega arith, rw (c.dot-e.ensures, e, t.1.1) (span_more (reduce_row a.k a.cross.now a.g a.p a.x a.y a.t8) 0 o.i a.s (omega arith) o.invariant.1))
+    (omega arith, rw (c.dot-e.ensures, e, t.1.1) (span_more (reduce_row a.k a.cross.now a.g a.p a.x a.y a.w) 0 o.i a.s (omega arith) o.invariant.1))
 
 pub returns : goal.returns
 unfolding reduce_by

@@ -29,7 +29,7 @@ loop-g-init c =
     let t = c.loop-i in
     let a = c.args in
     let e : t.i ≡ a.p = omega arith in
-    let h : take a.p t.out ≡ take a.p a.t5 = rw e at t.invariant.1.1 in
+    let h : take a.p t.out ≡ take a.p a.x = rw e at t.invariant.1.1 in
     (omega arith, (refl, rw (zero-mul, add-zero) (h ∙ span_none _ _ _)))
 
 pub overflow_mul-at : goal.overflow_mul-at
@@ -80,7 +80,7 @@ loop-g-preserved c =
         rw (next_group a.p t.g a.k)
             (effects_put a.k _ at t.out _ _ _ (omega arith) (omega arith) e (omega (arith, f)) c.write_effects.ensures
             ∙ rw (c.columns_times-b.ensures, c.columns_times-a.ensures)
-            (span_more (append_group a.p a.k a.t5 a.t6 a.w) 0 _ _ (omega arith) t.invariant.1.1)),
+            (span_more (append_group a.p a.k a.x a.v a.w) 0 _ _ (omega arith) t.invariant.1.1)),
       ),
     )
 

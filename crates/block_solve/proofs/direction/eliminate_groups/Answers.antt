@@ -34,7 +34,7 @@ returns-then-not-columns c =
     let fin = o.invariant.1 ∙ ap (λ s. groups_from n.random n.cross n.random_rhs a.p a.k a.groups a.damping 0 (untouched s)) c.damped_fixed-s.ensures in
     let e = sym (rw c.damped_block-c.ensures at c.solve_pair.ensures) ∙ c.in-Pair.is in
     let d = rw c.damped_block-c.ensures at c.solve_columns-columns.ensures in
-    let f = sym (ap (λ (z : Columns). z.found) d) ∙ not-true _ c.if-not-columns.true in
+    let f = sym (ap (λ (z : Columns). z.found) d) ∙ c.if-not-columns.true in
     sym (groups_stop n.random n.cross n.random_rhs a.p a.k a.groups a.damping o.g (record { found = true; s = o.s; v = o.v; w = o.w }) c.loop-g-test.true (pick_false _ _ _ (ap is_none e) ∙ ap not f)) ∙ fin
 
 pub store_columns-requires : goal.store_columns-requires
@@ -53,7 +53,7 @@ loop-g-preserved c =
     let n = a.n in
     let e = sym (rw c.damped_block-c.ensures at c.solve_pair.ensures) ∙ c.in-Pair.is in
     let d = rw c.damped_block-c.ensures at c.solve_columns-columns.ensures in
-    let f = sym (ap (λ (z : Columns). z.found) d) ∙ not-false _ c.if-not-columns.false in
+    let f = sym (ap (λ (z : Columns). z.found) d) ∙ c.if-not-columns.false in
     let h = groups_go n.random n.cross n.random_rhs a.p a.k a.groups a.damping o.g (record { found = true; s = o.s; v = o.v; w = o.w }) c.loop-g-test.true (pick_false _ _ _ (ap is_none e) ∙ ap not f) in
     (omega (arith, c.loop-g-test.true, c.requires.1), rw (c.reduce-s.ensures, c.store_columns.ensures) (sym (simp (e, ← d) at h) ∙ o.invariant.1))
 

@@ -65,7 +65,7 @@ loop-i-preserved c =
     let t = c.loop-i in
     let s = c.loop-j in
     let z = iter_all _ a.k _ _ s.invariant.1 s.invariant.0 c.loop-j-test.false in
-    let m = iter_more (prior_row a.k a.t4 a.b.now o.g) t.i _ t.invariant.1 in
+    let m = iter_more (prior_row a.k a.inverse a.b.now o.g) t.i _ t.invariant.1 in
     let e : o.g * a.k + a.k - o.g * a.k ≡ a.k = omega arith in
     (omega arith, rw (rw e at c.times-d.ensures, z) m)
 
@@ -74,7 +74,7 @@ loop-g-preserved c =
     let a = c.args in
     let t = c.loop-g in
     let e = iter_all _ a.k _ _ c.loop-i.invariant.1 c.loop-i.invariant.0 c.loop-i-test.false in
-    (omega arith, e ∙ iter_more (prior_group a.k a.t4 a.b.now) _ _ t.invariant.1)
+    (omega arith, e ∙ iter_more (prior_group a.k a.inverse a.b.now) _ _ t.invariant.1)
 
 pub returns : goal.returns
 unfolding add_priors

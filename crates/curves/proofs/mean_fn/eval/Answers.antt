@@ -20,5 +20,5 @@ returns-in-3 c = simp (c.ssmicmen_eval.ensures, test 1 c.in-3.is, test 2 c.in-3.
 pub returns-in_default : goal.returns-in_default
 unfolding eval_of
 returns-in_default c =
-    let none = c.in_default.rest in
+    let none = c.in_default.in_default-own.rest in
     simp (c.ssfpl_eval.ensures, ne_eqb _ _ none.0.0.1, ne_eqb _ _ none.0.1, ne_eqb _ _ none.1)

@@ -13,7 +13,7 @@ abbrev pub decreases-loop-j : goal.decreases-loop-j
 decreases-loop-j l = l.n - l.j
 
 abbrev pub invariant-loop-t : goal.invariant-loop-t
-invariant-loop-t l = (l.t ≤ l.n) × (l.x ≡ span (known l.n (record { l.a = l.a; l.b = l.b })) 0 l.t l.initial.x)
+invariant-loop-t l = (l.t ≤ l.n) × (l.x ≡ span (known l.n (record { a = l.a; b = l.b })) 0 l.t l.initial.x)
 
 abbrev pub decreases-loop-t : goal.decreases-loop-t
 decreases-loop-t l = l.n - l.t

@@ -17,7 +17,7 @@ unfolding better
 loop-r-preserved c =
     let a = c.args in
     let t = c.loop-r in
-    let m = span_more (better a.t1 a.i) (a.i + 1) t.r a.i t.invariant.1.0 t.invariant.1.1.1 in
+    let m = span_more (better a.a a.i) (a.i + 1) t.r a.i t.invariant.1.0 t.invariant.1.1.1 in
     elim c.if-was-is.branch [
       | then-was-is w ↦ (omega arith, (omega arith, (omega arith, w.1 ∙ (simp (← c.abs-is.ensures, ← c.abs-was.ensures, w.if-was-is.true) at m))))
       | else-was-is w ↦ (omega arith, (omega arith, (omega arith, w.1 ∙ (simp (← c.abs-is.ensures, ← c.abs-was.ensures, w.if-was-is.false) at m))))

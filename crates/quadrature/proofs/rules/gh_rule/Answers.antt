@@ -27,4 +27,4 @@ returns-in-11 c = rw (c.point_at-in-11.ensures, c.in-11.is)
 
 pub returns-in_default : goal.returns-in_default
 unfolding nodes_of weights_of div of_bits
-returns-in_default c = let r = c.in_default.rest in simp (ne_eqb _ _ r.0.0.0.0.1, ne_eqb _ _ r.0.0.0.1, ne_eqb _ _ r.0.0.1, ne_eqb _ _ r.0.1, ne_eqb _ _ r.1)
+returns-in_default c = let r = c.in_default.in_default-own.rest in simp (ne_eqb _ _ r.0.0.0.0.1, ne_eqb _ _ r.0.0.0.1, ne_eqb _ _ r.0.0.1, ne_eqb _ _ r.0.1, ne_eqb _ _ r.1)

@@ -16,7 +16,10 @@ pub slice_bounds-number-end-2 : goal.slice_bounds-number-end-2
 slice_bounds-number-end-2 c = omega (arith, end-le c)
 
 pub returns : goal.returns
-returns c = (
-  mantissa_is c.args.text.now _ _ _ _ _ _ _ _ c.stands-negative.ensures c.past-whole.ensures.value c.digits_end-point.ensures.value c.past-fraction.ensures.value c.digits_end-end.ensures.value c.number-high.ensures c.number-digits.ensures c.either-some.ensures,
-  (omega (arith, end-le c), end-le c),
-)
+returns c =
+    record {
+      value = mantissa_is c.args.text.now _ _ _ _ _ _ _ _ c.stands-negative.ensures c.past-whole.ensures.value c.digits_end-point.ensures.value c.past-fraction.ensures.value c.digits_end-end.ensures.value c.number-high.ensures c.number-digits.ensures c.either-some.ensures;
+      places_in_bounds = (
+      (omega (arith, end-le c), end-le c),
+    );
+    }

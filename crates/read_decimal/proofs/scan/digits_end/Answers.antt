@@ -11,13 +11,19 @@ pub returns-then-b-lt48 : goal.returns-then-b-lt48
 unfolding digits_end
 returns-then-b-lt48 c =
     let i = c.loop-i.invariant in
-    (omega (arith, i.2, run_low c.args.text.now c.loop-i.i c.loop-i-test.true c.if-b-lt48.true), (i.0, i.1))
+    record {
+      value = omega (arith, i.2, run_low c.args.text.now c.loop-i.i c.loop-i-test.true c.if-b-lt48.true);
+      lower_bound = (i.0, i.1);
+    }
 
 pub returns-then-b-gt57 : goal.returns-then-b-gt57
 unfolding digits_end
 returns-then-b-gt57 c =
     let i = c.loop-i.invariant in
-    (omega (arith, i.2, run_high c.args.text.now c.loop-i.i c.loop-i-test.true c.if-b-lt48.false c.if-b-gt57.true), (i.0, i.1))
+    record {
+      value = omega (arith, i.2, run_high c.args.text.now c.loop-i.i c.loop-i-test.true c.if-b-lt48.false c.if-b-gt57.true);
+      lower_bound = (i.0, i.1);
+    }
 
 pub loop-i-preserved : goal.loop-i-preserved
 loop-i-preserved c = (omega arith, λ h. omega arith, omega (arith, c.loop-i.invariant.2, run_more c.args.text.now c.loop-i.i c.loop-i-test.true c.if-b-lt48.false c.if-b-gt57.false))
@@ -26,4 +32,7 @@ pub returns : goal.returns
 unfolding digits_end
 returns c =
     let i = c.loop-i.invariant in
-    (omega (arith, i.2, run_none c.args.text.now c.loop-i.i c.loop-i-test.false), (i.0, i.1))
+    record {
+      value = omega (arith, i.2, run_none c.args.text.now c.loop-i.i c.loop-i-test.false);
+      lower_bound = (i.0, i.1);
+    }

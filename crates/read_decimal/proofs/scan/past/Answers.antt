@@ -15,7 +15,10 @@ overflow_add-result c = omega (arith, first c)
 pub returns-then-stands : goal.returns-then-stands
 returns-then-stands c =
     let a = c.args in
-    (after_first a.text.now a.at a.a a.b (sym c.stands.ensures ∙ c.if-stands.true), (omega arith, λ h. omega (arith, first c)))
+    record {
+      value = after_first a.text.now a.at a.a a.b (sym c.stands.ensures ∙ c.if-stands.true);
+      lower_bound = (omega arith, λ h. omega (arith, first c));
+    }
 
 pub overflow_add-result-then-stands-2 : goal.overflow_add-result-then-stands-2
 overflow_add-result-then-stands-2 c = omega (arith, second c)
@@ -23,9 +26,15 @@ overflow_add-result-then-stands-2 c = omega (arith, second c)
 pub returns-then-stands-2 : goal.returns-then-stands-2
 returns-then-stands-2 c =
     let a = c.args in
-    (after_second a.text.now a.at a.a a.b (sym c.stands.ensures ∙ c.if-stands.false) (sym c.stands-2.ensures ∙ c.if-stands-2.true), (omega arith, λ h. omega (arith, second c)))
+    record {
+      value = after_second a.text.now a.at a.a a.b (sym c.stands.ensures ∙ c.if-stands.false) (sym c.stands-2.ensures ∙ c.if-stands-2.true);
+      lower_bound = (omega arith, λ h. omega (arith, second c));
+    }
 
 pub returns : goal.returns
 returns c =
     let a = c.args in
-    (after_none a.text.now a.at a.a a.b (sym c.stands.ensures ∙ c.if-stands.false) (sym c.stands-2.ensures ∙ c.if-stands-2.false), (omega arith, λ h. h))
+    record {
+      value = after_none a.text.now a.at a.a a.b (sym c.stands.ensures ∙ c.if-stands.false) (sym c.stands-2.ensures ∙ c.if-stands-2.false);
+      lower_bound = (omega arith, λ h. h);
+    }

@@ -37,7 +37,10 @@ average-requires c =
     let s = c.sort in
     let nx = lent_front f.result f.new.1.1.0 s.new.0 (omega arith) s.auto.0 in
     let ny = lent_front f.result f.new.1.1.1.0 s.new.1.0 (omega arith) s.auto.1.0 in
-    ((sym ny ∙ nx, omega arith), c.requires.u_len)
+    record {
+      y_len = (sym ny ∙ nx, omega arith);
+      u_len = c.requires.u_len;
+    }
 
 pub returns : goal.returns
 unfolding sorted_xy_data
@@ -53,4 +56,7 @@ returns c =
     let m = lent_count f.result f.new.1.1.1.0 s.new.1.0 py s.auto.1.0 in
     let sorted = rw f.ensures.pairs at s.ensures in
     let done = rw (h, k, sorted) at w in
-    (done, points_sortable _ _ _ _ done (omega (arith, ap length sorted, zip_length s.new.0 s.new.1.0 (m ∙ sym n))))
+    record {
+      front = done;
+      sortable = points_sortable _ _ _ _ done (omega (arith, ap length sorted, zip_length s.new.0 s.new.1.0 (m ∙ sym n)));
+    }

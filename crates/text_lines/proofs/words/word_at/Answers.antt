@@ -14,7 +14,10 @@ loop-i-init c = (omega arith, refl)
 pub returns-then-left-eq0 : goal.returns-then-left-eq0
 returns-then-left-eq0 c =
     let w = c.loop-i in
-    (sym (rw c.if-left-eq0.true at w.invariant.1), w.invariant.0)
+    record {
+      table_value = sym (rw c.if-left-eq0.true at w.invariant.1);
+      upper_bound = w.invariant.0;
+    }
 
 pub loop-i-preserved : goal.loop-i-preserved
 loop-i-preserved c =
@@ -26,4 +29,7 @@ pub returns : goal.returns
 returns c =
     let w = c.loop-i in
     let a = c.args in
-    (sym w.invariant.1 ∙ word_past w.left w.i a.table.now (omega arith) ∙ sym (word_past 0 w.i a.table.now (omega arith)), w.invariant.0)
+    record {
+      table_value = sym w.invariant.1 ∙ word_past w.left w.i a.table.now (omega arith) ∙ sym (word_past 0 w.i a.table.now (omega arith));
+      upper_bound = w.invariant.0;
+    }
