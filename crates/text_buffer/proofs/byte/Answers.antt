@@ -1,6 +1,5 @@
--- A full place writes nothing, a place within the buffer takes the byte, and one at its end becomes full: the definition's three cases. Assumes nothing.
-use borrow.Author.Rules.{rules}
-use native.Mathlib.Omega.{arith}
+-- A full place writes nothing, a place within the buffer takes the byte, and one at its end becomes full: the definition's three cases.
+use Rattle.std.proofs.Common.{arith}
 use Rattle.text_buffer.specs.laws.Text.{byte_full, byte_fits, byte_over}
 use Rattle.text_buffer.proofs.byte.Goals as goal
 

@@ -1,11 +1,9 @@
--- The two ends are cut to what the text has. Assumes nothing.
+-- The two ends are cut to what the text has.
 use Rattle.text_buffer.proofs.Parts.{slice_cut}
-use borrow.Author.Rules.{rules}
 use Rattle.text_buffer.proofs.part.Goals as goal
 
 pub returns : goal.returns
 returns c =
-    let a = c.args in
     let e = c.lesser-end.ensures in
     let s = c.lesser-at.ensures in
-    rw (slice_cut a.from a.to a.text.now) at (rw (s, e) at c.put.ensures)
+    rw (slice_cut c.args.from c.args.to c.args.text.now) at (rw (s, e) at c.put.ensures)
