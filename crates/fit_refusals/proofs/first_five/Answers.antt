@@ -1,6 +1,5 @@
 -- The faults are looked for by rising number, so at each return those before are excluded and its own is decided.
 use mathlib.Core.Path.{sym, ◌∙◌}
-use mathlib.Core.Path.{sym, ◌∙◌}
 use Rattle.fit_refusals.specs.Faults.{first_from}
 use Rattle.fit_refusals.proofs.first_five.Goals as goal
 

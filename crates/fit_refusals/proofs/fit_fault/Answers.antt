@@ -1,6 +1,5 @@
 -- Each test answers one definition, so at each return the tests before it, and its own, decide the list of faults. Assumes nothing.
 use mathlib.Core.Path.{sym, ◌∙◌}
-use mathlib.Core.Path.{sym, ◌∙◌}
 use Rattle.fit_refusals.proofs.Laws.{fit_early, fit_late, few_places}
 use Rattle.fit_refusals.specs.Faults.{first_from}
 use Rattle.fit_refusals.proofs.fit_fault.Goals as goal
