@@ -1,10 +1,6 @@
 -- What is left of the list passes the test exactly where the whole does, since what is behind passed. Assumes nothing.
-use borrow.Author.Tests.{not-true, not-false}
-use Prim.Native.Nat.{◌-◌, ◌≤◌}
-use mathlib.Core.Path.{◌≡◌, refl, sym, ◌∙◌}
+use mathlib.Core.Path.{refl, sym, ◌∙◌}
 use native.Mathlib.Omega.{arith}
-use lib.ListN.{length, drop}
-use Rattle.math.specs.Lists.{every}
 use Rattle.math.specs.laws.Lists.{every_stop, every_go, every_done}
 use lib.Ieee.{nan}
 use Rattle.math.specs.Basic.{is_finite}

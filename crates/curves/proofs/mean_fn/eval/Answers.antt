@@ -2,7 +2,6 @@
 use Rattle.curves.proofs.Laws.{test}
 use borrow.Author.Tests.{ne_eqb}
 use Rattle.curves.specs.MeanFn.{eval_of}
-use borrow.Author.Rules.{rules}
 use Rattle.curves.proofs.mean_fn.eval.Goals as goal
 
 pub returns-in-1 : goal.returns-in-1
