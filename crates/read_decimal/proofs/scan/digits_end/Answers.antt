@@ -1,6 +1,6 @@
 -- The loop's invariant: the digits from i on end where those from `at` on do. Assumes nothing.
-use Rattle.std.proofs.Common.{◌≡◌, ◌+◌, ◌-◌, ◌≤◌, length, drop, refl, arith}
-use Rattle.read_decimal.specs.Scan.{run, digits_end}
+use Rattle.std.proofs.Common.{refl, arith}
+use Rattle.read_decimal.specs.Scan.{digits_end}
 use Rattle.read_decimal.proofs.ScanLaws.{run_low, run_high, run_more, run_none}
 use Rattle.read_decimal.proofs.scan.digits_end.Goals as goal
 

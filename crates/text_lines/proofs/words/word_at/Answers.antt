@@ -1,10 +1,7 @@
 -- The word that is sought from here is the one sought from the start. Assumes nothing.
-use Prim.Native.Nat.{◌-◌, ◌≤◌}
-use mathlib.Core.Path.{◌≡◌, refl, sym, ◌∙◌}
+use mathlib.Core.Path.{refl, sym, ◌∙◌}
 use borrow.Author.Rules.{rules}
 use native.Mathlib.Omega.{arith}
-use lib.ListN.{length, drop}
-use Rattle.text_lines.specs.Lines.{word_of}
 use Rattle.text_lines.proofs.Lines.{word_next, word_past}
 use Rattle.text_lines.proofs.words.word_at.Goals as goal
 
