@@ -1,4 +1,4 @@
--- A group's effects are a part of b that lies within it (`group-fits`); each turn adds what the definition adds. Assumes nothing.
+-- A group's effects are a part of b that lies within it (`group_fits`); each turn adds what the definition adds. Assumes nothing.
 use mathlib.Core.Path.{◌≡◌, ◌∙◌}
 use Prim.Native.Nat.{◌-◌, ◌+◌, ◌*◌}
 use Rattle.math.specs.laws.Parts.{group_fits}
