@@ -2,7 +2,7 @@
 #
 # Beside the Rattle kit each needs what stands in brackets:
 #   rust      the published Rust: the repository x4g4p3x/lme-rs at commit 8b8502d2c9, its folder named by SOURCE=folder
-#   archive   libkemroul.a, which `rt staticlib kemroul` writes
+#   archive   libkemroul.a, which `make archive` writes
 #
 # The archive's answers against the published Rust's, bit for bit (oracle/README.md):
 #   make differential    builds the archive, the oracle and the driver, and compares them   [rust, cargo, python3]
@@ -77,7 +77,8 @@ oracle-test: copy
 	@cd oracle && cargo test -j2 --offline --quiet -p fdlibm -p linalg-plain -p replaced
 
 archive:
-	$(RT) staticlib kemroul
+	cd crates/kemroul && $(RT) lib
+	@mkdir -p $(ARCHIVE_DIR) && cp crates/kemroul/out/libkemroul.a $(ARCHIVE_DIR)/
 
 driver: oracle
 	@cd oracle && KEMROUL_ARCHIVE_DIR=$(abspath $(ARCHIVE_DIR)) $(CARGO) -p driver
@@ -157,7 +158,7 @@ header-test:
 
 # A function moves the stack pointer once, at its beginning (stack.c); memcpy and memset are bound before the calls.
 stack: machine
-	@test -f $(ARCHIVE_DIR)/libkemroul.a || { echo "no $(ARCHIVE_DIR)/libkemroul.a: run 'rt staticlib kemroul' first" >&2; exit 1; }
+	@test -f $(ARCHIVE_DIR)/libkemroul.a || { echo "no $(ARCHIVE_DIR)/libkemroul.a: run 'make archive' first" >&2; exit 1; }
 	@mkdir -p target
 	@$(CC) --version | sed -n 1p
 	@$(CC) -std=gnu99 -O1 -maccumulate-outgoing-args $(STRICT) -o target/stack bench/stack/stack.c $(ARCHIVE_DIR)/libkemroul.a -Wl,-z,now

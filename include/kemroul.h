@@ -1,4 +1,4 @@
-/* Kemroul: the functions of libkemroul.a (`rt staticlib kemroul`).
+/* Kemroul: the functions of libkemroul.a (`make archive`).
  *
  * Results. Every result is proved to equal a definition, bit for bit, for every input; docs/PROMISES.md says which.
  * Any NaN counts as the same value: which of its bit patterns is returned is left open.

@@ -11,7 +11,7 @@ fn main() {
     println!("cargo::rerun-if-changed={}", archive.display());
     if !archive.is_file() {
         println!(
-            "cargo::error=no {}: run `rt staticlib kemroul` in the repository, or name its folder in KEMROUL_ARCHIVE_DIR",
+            "cargo::error=no {}: run `make archive` in the repository, or name its folder in KEMROUL_ARCHIVE_DIR",
             archive.display()
         );
     }

@@ -1,5 +1,5 @@
 /* Refits the canisters of one machine: starting values, the search over theta, the fit there, and each canister's
- * curve. `make -C examples/c run` builds and runs it, once `rt staticlib kemroul` has written the archive.
+ * curve. `make -C examples/c run` builds and runs it, once `make archive` has written the archive.
  *
  * The readings are R's data set Orange: the dose is a tree's age in days, the weight its circumference in
  * millimetres, and a tree is a canister. lme4's nlmer fits them with theta 4.0350 and deviance 263.14.

@@ -1,6 +1,5 @@
 -- The public operation: document 01's number and floats for every input.
 use Rattle.std.specs.Prelude.{ℕ, ◌||◌, cond, List, [], ◌∷◌, eqb, ltb, Float, length}
-use Rattle.std.specs.Float.Ieee as Ieee
 use Rattle.curves.specs.declared.Mean.{Mean}
 use Rattle.curves.specs.declared.Answer.{Answer}
 use Rattle.curves.specs.declared.Answer.TheVariants.{Refused, Value}

@@ -1,10 +1,9 @@
--- The order of two lists, place by place as the loop tests it, and the test of a call's answer. Assumes nothing.
+-- The order of two lists, place by place as the loop tests it. Assumes nothing.
 use Prim.Native.Nat.{ℕ, ◌+◌, ◌≤◌, ◌<◌}
-use mathlib.Core.Path.{◌≡◌, sym, ◌∙◌}
-use mathlib.Core.Bool.{Bool, true, false, not}
+use mathlib.Core.Path.{◌≡◌}
+use mathlib.Core.Bool.{true, false}
 use mathlib.Core.List.{List}
 use native.Mathlib.Numerals.{add-one}
-use borrow.Author.Tests.{not-true, not-false}
 use lib.Ieee.{Float, nan, lt}
 use lib.ListN.{length, get_or, drop, drop_of_length-le}
 use lib.Seq.{drop-cons}
@@ -26,11 +25,3 @@ module _ (xs ys : List Float) (i : ℕ) where
   pub order_short : i < length xs → length ys ≤ i → in_order (drop i xs) (drop i ys) ≡ true
   unfolding in_order
   order_short p q = rw (drop-cons xs i nan p, drop_of_length-le ys q)
-
--- ---- the test of a call's answer, which is a definition's value
-
-pub failed : {r b : Bool} → r ≡ b → not r ≡ true → b ≡ false
-failed e h = sym e ∙ not-true _ h
-
-pub passed : {r b : Bool} → r ≡ b → not r ≡ false → b ≡ true
-passed e h = sym e ∙ not-false _ h

@@ -13,7 +13,6 @@ use Rattle.math.specs.Basic.{mul, div}
 use Rattle.read_decimal.specs.Scan.{limit}
 use Rattle.read_decimal.specs.Decimal.{is_decimal, is_negative, mantissa_of, written_of, up_of, down_of, signed, tens, scaled_of, number_of, decimal_of}
 use Rattle.read_decimal.specs.declared.Decimal.{Decimal}
-use Rattle.read_decimal.specs.declared.Decimal.TheVariants as Decimal
 
 -- ---- the digits and the power of ten are exact
 neg_value : (x : Float) (a c : ℕ) → HasValue x false a c → HasValue (neg x) true a c

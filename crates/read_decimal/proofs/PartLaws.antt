@@ -4,7 +4,6 @@ use Rattle.read_decimal.specs.Scan.{is, after, digits_end, value_from, limit, ca
 use Rattle.read_decimal.specs.Decimal.{whole_at, whole_end, fraction_at, fraction_end, power_at, power_digits_at, power_end, has_digit, ends_right, is_decimal, is_negative, mantissa_of, places_of, written_of, is_small, up_of, down_of, scaled_of, number_of, decimal_of}
 use Rattle.read_decimal.specs.Parts.{read_mantissa, read_power, numbered_of}
 use Rattle.read_decimal.specs.declared.Decimal.{Decimal}
-use Rattle.read_decimal.specs.declared.Decimal.TheVariants as Decimal
 use Rattle.read_decimal.specs.declared.parts.Mantissa.{Mantissa}
 use Rattle.read_decimal.specs.declared.parts.Power.{Power}
 use Rattle.read_decimal.proofs.ScanLaws.{capped_more, capped_large, capped_small}

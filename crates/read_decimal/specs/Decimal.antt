@@ -7,7 +7,6 @@ use Rattle.math.specs.Basic.{mul, div}
 use Rattle.math.specs.Parts.{part}
 use Rattle.read_decimal.specs.Scan.{is, after, digits_end, value, limit}
 use Rattle.read_decimal.specs.declared.Decimal.{Decimal}
-use Rattle.read_decimal.specs.declared.Decimal.TheVariants as Decimal
 
 -- ---- the parts of a text, by their places
 

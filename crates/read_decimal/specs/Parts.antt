@@ -3,7 +3,6 @@ use Rattle.std.specs.Prelude.{ℕ, ◌+◌, cond, List, nat_lt}
 use Rattle.read_decimal.specs.Scan.{capped, limit}
 use Rattle.read_decimal.specs.Decimal.{has_digit, ends_right, is_negative, is_small, mantissa_of, places_of, written_of, fraction_end, scaled_of}
 use Rattle.read_decimal.specs.declared.Decimal.{Decimal}
-use Rattle.read_decimal.specs.declared.Decimal.TheVariants as Decimal
 use Rattle.read_decimal.specs.declared.parts.Mantissa.{Mantissa}
 use Rattle.read_decimal.specs.declared.parts.Power.{Power}
 

@@ -2,7 +2,6 @@
 use Rattle.std.specs.Prelude.{ℕ, zero, suc, ◌+◌, ◌-◌, ◌*◌, ◌/◌, ◌%◌, ◌^◌, Bool, true, false, cond, ◌&&◌, List, [], ◌∷◌, ◌++◌, pos, ◌==◌, nat_le, nat_lt, Float}
 use Rattle.std.specs.Float.{nan, inf, fin, binary64}
 use Rattle.std.specs.Float.Ieee.{up, down, lt, le, eq, of_int}
-use Rattle.std.specs.Float.Ieee as Ieee
 use Rattle.math.specs.Basic.{bits, mul, div, abs_of, one}
 use Rattle.math.specs.Basic as Basic
 use Rattle.math.specs.Loops.{until}

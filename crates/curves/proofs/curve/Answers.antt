@@ -8,7 +8,6 @@ use mathlib.Core.Path.{◌≡◌, ap, ◌∙◌}
 use mathlib.Core.Bool.{true}
 use lib.Dec.{eqb}
 use lib.ListN.{length}
-use borrow.Author.Rules.{rules}
 use Rattle.curves.proofs.curve.Goals as goal
 
 pub returns-then-code-lt1 : goal.returns-then-code-lt1

@@ -1,9 +1,7 @@
+-- What is left of the list passes the test exactly where the whole does; the measure is the number of items left.
 use Prim.Native.Nat.{◌-◌, ◌≤◌}
-use mathlib.Core.Path.{◌≡◌, refl, sym, ◌∙◌}
-use native.Mathlib.Omega.{arith}
+use mathlib.Core.Path.{◌≡◌}
 use lib.ListN.{length, drop}
-use Rattle.math.specs.laws.Lists.{every_stop, every_go, every_done}
-use borrow.Author.Tests.{lt-ltb, le-ltb}
 use Rattle.fit_faults.specs.Tests.{all_below}
 use Rattle.fit_faults.proofs.all_below.Given as goal
 

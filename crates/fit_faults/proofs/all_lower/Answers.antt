@@ -1,10 +1,6 @@
 -- What is left of the list passes the test exactly where the whole does, since what is behind passed. Assumes nothing.
-use borrow.Author.Tests.{not-true, not-false}
-use Prim.Native.Nat.{◌-◌, ◌≤◌}
-use mathlib.Core.Path.{◌≡◌, refl, sym, ◌∙◌}
+use mathlib.Core.Path.{refl, sym, ◌∙◌}
 use native.Mathlib.Omega.{arith}
-use lib.ListN.{length, drop}
-use Rattle.math.specs.Lists.{every}
 use Rattle.math.specs.laws.Lists.{every_stop, every_go, every_done}
 use lib.Ieee.{nan}
 use Rattle.fit_faults.specs.Tests.{is_lower}
@@ -17,13 +13,13 @@ pub returns-then-not-list-i : goal.returns-then-not-list-i
 returns-then-not-list-i c =
     let l = c.loop-i in
     let a = c.args in
-    sym (every_stop is_lower a.list.now l.i nan c.loop-i-test.true (not-true _ (rw c.infinity-end.ensures at c.if-not-list-i.true))) ∙ l.invariant.1
+    sym (every_stop is_lower a.list.now l.i nan c.loop-i-test.true (rw c.infinity-end.ensures at c.if-not-list-i.true)) ∙ l.invariant.1
 
 pub loop-i-preserved : goal.loop-i-preserved
 loop-i-preserved c =
     let l = c.loop-i in
     let a = c.args in
-    (omega arith, every_go is_lower a.list.now l.i nan c.loop-i-test.true (not-false _ (rw c.infinity-end.ensures at c.if-not-list-i.false)) ∙ l.invariant.1)
+    (omega arith, every_go is_lower a.list.now l.i nan c.loop-i-test.true (rw c.infinity-end.ensures at c.if-not-list-i.false) ∙ l.invariant.1)
 
 pub returns : goal.returns
 returns c = sym (every_done is_lower c.args.list.now c.loop-i.i c.loop-i-test.false) ∙ c.loop-i.invariant.1

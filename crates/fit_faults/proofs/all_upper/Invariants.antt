@@ -1,11 +1,8 @@
-use borrow.Author.Tests.{not-true, not-false}
+-- What is left of the list passes the test exactly where the whole does; the measure is the number of items left.
 use Prim.Native.Nat.{◌-◌, ◌≤◌}
-use mathlib.Core.Path.{◌≡◌, refl, sym, ◌∙◌}
-use native.Mathlib.Omega.{arith}
+use mathlib.Core.Path.{◌≡◌}
 use lib.ListN.{length, drop}
 use Rattle.math.specs.Lists.{every}
-use Rattle.math.specs.laws.Lists.{every_stop, every_go, every_done}
-use lib.Ieee.{nan, neg}
 use Rattle.fit_faults.specs.Tests.{is_upper}
 use Rattle.fit_faults.proofs.all_upper.Given as goal
 

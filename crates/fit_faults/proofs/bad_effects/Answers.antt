@@ -1,8 +1,7 @@
 -- Each return is where the definition's alternatives are decided; both effects are read only where there are two.
-use Rattle.fit_faults.proofs.Laws.{failed, passed}
+use mathlib.Core.Path.{sym, ◌∙◌}
 use borrow.Author.Tests.{lt-ltb, le-ltb, eq-eqb, ne_eqb}
 use Rattle.fit_faults.specs.Tests.{bad_effects}
-use borrow.Author.Rules.{rules}
 use Rattle.fit_faults.proofs.bad_effects.Goals as goal
 
 pub returns-then-n-lt1 : goal.returns-then-n-lt1
@@ -15,12 +14,12 @@ returns-then-n-gt2 c = simp (le-ltb _ _ c.if-n-lt1.false, lt-ltb _ _ c.if-n-gt2.
 
 pub returns-then-not-all_below : goal.returns-then-not-all_below
 unfolding bad_effects
-returns-then-not-all_below c = simp (le-ltb _ _ c.if-n-lt1.false, le-ltb _ _ c.if-n-gt2.false, failed c.all_below.ensures c.if-not-all_below.true)
+returns-then-not-all_below c = simp (le-ltb _ _ c.if-n-lt1.false, le-ltb _ _ c.if-n-gt2.false, sym c.all_below.ensures ∙ c.if-not-all_below.true)
 
 pub returns-then-n-eq2 : goal.returns-then-n-eq2
 unfolding bad_effects
-returns-then-n-eq2 c = simp (le-ltb _ _ c.if-n-lt1.false, le-ltb _ _ c.if-n-gt2.false, passed c.all_below.ensures c.if-not-all_below.false, eq-eqb _ _ c.if-n-eq2.true)
+returns-then-n-eq2 c = simp (le-ltb _ _ c.if-n-lt1.false, le-ltb _ _ c.if-n-gt2.false, sym c.all_below.ensures ∙ c.if-not-all_below.false, eq-eqb _ _ c.if-n-eq2.true)
 
 pub returns : goal.returns
 unfolding bad_effects
-returns c = simp (le-ltb _ _ c.if-n-lt1.false, le-ltb _ _ c.if-n-gt2.false, passed c.all_below.ensures c.if-not-all_below.false, ne_eqb _ _ c.if-n-eq2.false)
+returns c = simp (le-ltb _ _ c.if-n-lt1.false, le-ltb _ _ c.if-n-gt2.false, sym c.all_below.ensures ∙ c.if-not-all_below.false, ne_eqb _ _ c.if-n-eq2.false)

@@ -1,9 +1,6 @@
 -- What is left of the two lists is in order exactly where the whole is, since what is behind is. Assumes nothing.
-use Prim.Native.Nat.{◌-◌, ◌≤◌}
-use mathlib.Core.Path.{◌≡◌, refl, sym, ◌∙◌}
+use mathlib.Core.Path.{refl, sym, ◌∙◌}
 use native.Mathlib.Omega.{arith}
-use lib.ListN.{length, drop}
-use Rattle.fit_faults.specs.Lists.{in_order}
 use Rattle.fit_faults.proofs.Laws.{order_stop, order_go, order_done, order_short}
 use Rattle.fit_faults.proofs.in_order.Goals as goal
 

@@ -1,9 +1,8 @@
+-- What is left of the two lists is in order exactly where the whole is; the measure is the number of lower bounds left.
 use Prim.Native.Nat.{◌-◌, ◌≤◌}
-use mathlib.Core.Path.{◌≡◌, refl, sym, ◌∙◌}
-use native.Mathlib.Omega.{arith}
+use mathlib.Core.Path.{◌≡◌}
 use lib.ListN.{length, drop}
 use Rattle.fit_faults.specs.Lists.{in_order}
-use Rattle.fit_faults.proofs.Laws.{order_stop, order_go, order_done, order_short}
 use Rattle.fit_faults.proofs.in_order.Given as goal
 
 abbrev pub invariant-loop-i : goal.invariant-loop-i

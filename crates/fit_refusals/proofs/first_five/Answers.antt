@@ -1,8 +1,6 @@
 -- The faults are looked for by rising number, so at each return those before are excluded and its own is decided.
 use mathlib.Core.Path.{sym, ◌∙◌}
-use Rattle.fit_faults.proofs.Laws.{failed, passed}
 use Rattle.fit_refusals.specs.Faults.{first_from}
-use borrow.Author.Rules.{rules}
 use Rattle.fit_refusals.proofs.first_five.Goals as goal
 
 pub returns-then-bad_code : goal.returns-then-bad_code
@@ -33,7 +31,7 @@ returns-then-not-all_below c =
       sym c.bad_code.ensures ∙ c.if-bad_code.false,
       sym c.bad_readings.ensures ∙ c.if-bad_readings.false,
       sym c.bad_groups.ensures ∙ c.if-bad_groups.false,
-      failed c.all_below.ensures c.if-not-all_below.true,
+      sym c.all_below.ensures ∙ c.if-not-all_below.true,
     )
 
 pub returns-then-bad_effects : goal.returns-then-bad_effects
@@ -44,7 +42,7 @@ returns-then-bad_effects c =
       sym c.bad_code.ensures ∙ c.if-bad_code.false,
       sym c.bad_readings.ensures ∙ c.if-bad_readings.false,
       sym c.bad_groups.ensures ∙ c.if-bad_groups.false,
-      passed c.all_below.ensures c.if-not-all_below.false,
+      sym c.all_below.ensures ∙ c.if-not-all_below.false,
       sym c.bad_effects.ensures ∙ c.if-bad_effects.true,
     )
 
@@ -56,6 +54,6 @@ returns c =
       sym c.bad_code.ensures ∙ c.if-bad_code.false,
       sym c.bad_readings.ensures ∙ c.if-bad_readings.false,
       sym c.bad_groups.ensures ∙ c.if-bad_groups.false,
-      passed c.all_below.ensures c.if-not-all_below.false,
+      sym c.all_below.ensures ∙ c.if-not-all_below.false,
       sym c.bad_effects.ensures ∙ c.if-bad_effects.false,
     )

@@ -1,9 +1,7 @@
 -- Each test answers one definition, so at each return the tests before it, and its own, decide the list of faults. Assumes nothing.
 use mathlib.Core.Path.{sym, ◌∙◌}
-use Rattle.fit_faults.proofs.Laws.{failed, passed}
 use Rattle.fit_refusals.proofs.Laws.{fit_early, fit_late, few_places}
 use Rattle.fit_refusals.specs.Faults.{first_from}
-use borrow.Author.Rules.{rules}
 use Rattle.fit_refusals.proofs.fit_fault.Goals as goal
 
 pub returns-then-early-ne0 : goal.returns-then-early-ne0
@@ -48,7 +46,7 @@ returns-then-not-all_finite c =
       sym c.bad_lengths.ensures ∙ c.if-bad_lengths.false,
       sym c.bad_theta.ensures ∙ c.if-bad_theta.false,
       sym c.bad_numbers.ensures ∙ c.if-bad_numbers.false,
-      failed c.all_finite.ensures c.if-not-all_finite.true,
+      sym c.all_finite.ensures ∙ c.if-not-all_finite.true,
     ))
 
 pub returns-then-bad_order : goal.returns-then-bad_order
@@ -60,7 +58,7 @@ returns-then-bad_order c =
       sym c.bad_lengths.ensures ∙ c.if-bad_lengths.false,
       sym c.bad_theta.ensures ∙ c.if-bad_theta.false,
       sym c.bad_numbers.ensures ∙ c.if-bad_numbers.false,
-      passed c.all_finite.ensures c.if-not-all_finite.false,
+      sym c.all_finite.ensures ∙ c.if-not-all_finite.false,
       sym c.bad_order.ensures ∙ c.if-bad_order.true,
     ))
 
@@ -78,7 +76,7 @@ returns-then-bad_outputs c =
       sym c.bad_lengths.ensures ∙ c.if-bad_lengths.false,
       sym c.bad_theta.ensures ∙ c.if-bad_theta.false,
       sym c.bad_numbers.ensures ∙ c.if-bad_numbers.false,
-      passed c.all_finite.ensures c.if-not-all_finite.false,
+      sym c.all_finite.ensures ∙ c.if-not-all_finite.false,
       sym c.bad_order.ensures ∙ c.if-bad_order.false,
       sym c.bad_outputs.ensures ∙ c.if-bad_outputs.true,
     ))
@@ -92,7 +90,7 @@ returns-then-too_many c =
       sym c.bad_lengths.ensures ∙ c.if-bad_lengths.false,
       sym c.bad_theta.ensures ∙ c.if-bad_theta.false,
       sym c.bad_numbers.ensures ∙ c.if-bad_numbers.false,
-      passed c.all_finite.ensures c.if-not-all_finite.false,
+      sym c.all_finite.ensures ∙ c.if-not-all_finite.false,
       sym c.bad_order.ensures ∙ c.if-bad_order.false,
       sym c.bad_outputs.ensures ∙ c.if-bad_outputs.false,
       sym c.too_many.ensures ∙ c.if-too_many.true,
@@ -107,7 +105,7 @@ returns c =
       sym c.bad_lengths.ensures ∙ c.if-bad_lengths.false,
       sym c.bad_theta.ensures ∙ c.if-bad_theta.false,
       sym c.bad_numbers.ensures ∙ c.if-bad_numbers.false,
-      passed c.all_finite.ensures c.if-not-all_finite.false,
+      sym c.all_finite.ensures ∙ c.if-not-all_finite.false,
       sym c.bad_order.ensures ∙ c.if-bad_order.false,
       sym c.bad_outputs.ensures ∙ c.if-bad_outputs.false,
       sym c.too_many.ensures ∙ c.if-too_many.false,

@@ -3,7 +3,6 @@ use mathlib.Core.Path.{sym, ◌∙◌}
 use borrow.Author.Tests.{eq-eqb, ne_eqb}
 use Rattle.fit_refusals.proofs.Laws.{search_early, search_late}
 use Rattle.fit_refusals.specs.Faults.{first_from}
-use borrow.Author.Rules.{rules}
 use Rattle.fit_refusals.proofs.search_fault.Goals as goal
 
 pub returns-then-early-ne0 : goal.returns-then-early-ne0

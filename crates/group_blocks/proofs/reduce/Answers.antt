@@ -1,9 +1,7 @@
 -- A row of the system is changed place by place, and its right-hand side last, as the definition has it. Assumes nothing.
-use mathlib.Core.Path.{◌≡◌, refl}
-use Prim.Native.Nat.{◌-◌, ◌≤◌}
-use Rattle.math.specs.Loops.{span}
+use mathlib.Core.Path.{refl}
 use Rattle.math.specs.laws.Loops.{span_none, span_more, span_all}
-use Rattle.group_blocks.specs.Columns.{reduce_at, reduce_row, reduce_by}
+use Rattle.group_blocks.specs.Columns.{reduce_row, reduce_by}
 use native.Mathlib.Omega.{arith}
 use Rattle.group_blocks.proofs.reduce.Goals as goal
 
@@ -24,7 +22,7 @@ loop-i-preserved c =
     let o = c.loop-i in
     let t = c.loop-j.invariant in
     let e = span_all _ 0 a.p _ _ t.1.0 t.0 c.loop-j-test.false in
-    (omega arith, rw (c.dot-e.ensures, e, t.1.1) (span_more (reduce_row a.k a.cross.now a.g a.p a.x a.y a.t8) 0 o.i a.s (omega arith) o.invariant.1))
+    (omega arith, rw (c.dot-e.ensures, e, t.1.1) (span_more (reduce_row a.k a.cross.now a.g a.p a.x a.y a.w) 0 o.i a.s (omega arith) o.invariant.1))
 
 pub returns : goal.returns
 unfolding reduce_by

@@ -9,10 +9,16 @@ pub returns-in-Refused : goal.returns-in-Refused
 unfolding number_of
 returns-in-Refused c =
     let a = c.self_start-answer in
-    (sym (ap number_of c.in-Refused.is) ∙ ap number_of a.ensures.0 ∙ number_of_answer _, a.ensures.1)
+    record {
+      number = sym (ap number_of c.in-Refused.is) ∙ ap number_of a.ensures.0 ∙ number_of_answer _;
+      written = a.ensures.1;
+    }
 
 pub returns-in-Done : goal.returns-in-Done
 unfolding number_of
 returns-in-Done c =
     let a = c.self_start-answer in
-    (sym (ap number_of c.in-Done.is) ∙ ap number_of a.ensures.0 ∙ number_of_answer _, a.ensures.1)
+    record {
+      number = sym (ap number_of c.in-Done.is) ∙ ap number_of a.ensures.0 ∙ number_of_answer _;
+      written = a.ensures.1;
+    }

@@ -1,5 +1,5 @@
 -- The digits and then the power are tested against 10^15, as in the definition; below it the sum with the places fits. Assumes nothing.
-use Rattle.std.proofs.Common.{rules, le-ltb, lt-ltb}
+use Rattle.std.proofs.Common.{le-ltb, lt-ltb}
 use Rattle.read_decimal.specs.Parts.{numbered_of}
 use Rattle.read_decimal.proofs.numbered.Goals as goal
 

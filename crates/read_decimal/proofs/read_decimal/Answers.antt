@@ -1,5 +1,5 @@
 -- The two parts are the definition's, and so is the answer. Assumes nothing.
-use Rattle.std.proofs.Common.{ap, ◌∙◌, rules}
+use Rattle.std.proofs.Common.{ap, ◌∙◌}
 use Rattle.read_decimal.specs.Parts.{read_mantissa}
 use Rattle.read_decimal.specs.declared.parts.Mantissa.{Mantissa}
 use Rattle.read_decimal.proofs.PartLaws.{answer_is, no_digit, no_end}

@@ -17,7 +17,10 @@ next_line-p-requires c =
     let h = sym c.running.ensures ∙ c.loop-doses-test.true in
     let l = c.loop-doses in
     let a = c.args in
-    (((going (length a.text.now) l.left l.p h).1, omega (arith, (going (length a.text.now) l.left l.p h).0)), (l.invariant.1, l.invariant.2, l.invariant.3, l.invariant.4))
+    record {
+      at_in_bounds = ((going (length a.text.now) l.left l.p h).1, omega (arith, (going (length a.text.now) l.left l.p h).0));
+      count_in_bounds = (l.invariant.1, l.invariant.2, l.invariant.3, l.invariant.4);
+    }
 
 pub overflow_sub-left : goal.overflow_sub-left
 overflow_sub-left c =

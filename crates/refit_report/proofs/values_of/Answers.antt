@@ -18,4 +18,4 @@ returns-in-3 c = rw c.in-3.is c.fill-in-3.ensures
 
 pub returns-in_default : goal.returns-in_default
 unfolding values_text
-returns-in_default c = let none = c.in_default.rest in rw (ne_eqb _ _ none.0.0.1, ne_eqb _ _ none.0.1, ne_eqb _ _ none.1) c.fill-in_default.ensures
+returns-in_default c = let none = c.in_default.in_default-own.rest in rw (ne_eqb _ _ none.0.0.1, ne_eqb _ _ none.0.1, ne_eqb _ _ none.1) c.fill-in_default.ensures

@@ -14,14 +14,20 @@ unfolding answer_of written_of
 returns-then-number-ne0 c =
     let f = c.fault-number.ensures in
     let n = ne_eqb _ _ c.if-number-ne0.true in
-    (rw (← f, n), rw (← f, n))
+    record {
+      answer = rw (← f, n);
+      written = rw (← f, n);
+    }
 
 pub sorted_xy_data-n-requires : goal.sorted_xy_data-n-requires
 sorted_xy_data-n-requires c =
     let f = no_fault _ _ _ _ (sym c.fault-number.ensures ∙ c.if-number-ne0.false) in
     let n : length c.room-x.result ≡ 512 = search rules in
     let m : length c.room-y.result ≡ 512 = search rules in
-    ((sym f.1.1.1.0, f.1.1.0), (n, m))
+    record {
+      grams_len = (sym f.1.1.1.0, f.1.1.0);
+      u_len = (n, m);
+    }
 
 pub slice_bounds-write_start-end : goal.slice_bounds-write_start-end
 slice_bounds-write_start-end c = front _ _ (omega arith)
@@ -32,10 +38,16 @@ slice_bounds-write_start-end-2 c = front _ _ (omega arith)
 pub write_start-requires : goal.write_start-requires
 write_start-requires c =
     let f = no_fault _ _ _ _ (sym c.fault-number.ensures ∙ c.if-number-ne0.false) in
-    ((f.0, (f.1.0, f.1.1.1.1)), c.sorted_xy_data-n.ensures.sortable)
+    record {
+      le_code = (f.0, (f.1.0, f.1.1.1.1));
+      sortable = c.sorted_xy_data-n.ensures.sortable;
+    }
 
 pub returns : goal.returns
 unfolding answer_of written_of start_of
 returns c =
     let f = sym c.fault-number.ensures ∙ c.if-number-ne0.false in
-    (rw f, c.write_start.ensures ∙ rw (f, c.sorted_xy_data-n.ensures.front.pairs))
+    record {
+      answer = rw f;
+      written = c.write_start.ensures ∙ rw (f, c.sorted_xy_data-n.ensures.front.pairs);
+    }

@@ -1,5 +1,5 @@
 -- The values and the effect are read with NaNs past their ends, as in the definition, and the curve of them is the callee's.
-use Rattle.std.proofs.Common.{refl, rules}
+use Rattle.std.proofs.Common.{refl}
 use Rattle.svg_axes.specs.Ranges.{curve_at}
 use Rattle.svg_axes.proofs.curve_at.Goals as goal
 

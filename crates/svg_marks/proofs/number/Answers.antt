@@ -1,6 +1,5 @@
 -- The text and then the number's digits are one text, written after what was there.
 use Rattle.svg_marks.proofs.Laws.{then}
-use borrow.Author.Rules.{rules}
 use Rattle.svg_marks.proofs.number.Goals as goal
 
 pub returns : goal.returns

@@ -1,7 +1,6 @@
 -- g / 8 * 4 is at most half of g, so the word's number fits; the word and then the path's end are one text.
 use Rattle.svg_marks.specs.Marks.{shape_text}
 use Rattle.svg_marks.proofs.Laws.{then}
-use borrow.Author.Rules.{rules}
 use Rattle.svg_marks.proofs.shape.Goals as goal
 
 pub returns : goal.returns

@@ -1,7 +1,7 @@
 -- So many powers of the table are missed before the place i. Assumes nothing.
-use Rattle.std.proofs.Common.{◌-◌, ◌≤◌, rules}
+use Rattle.std.proofs.Common.{rules}
 use Rattle.text_floats.specs.Floats.{powers}
-use Rattle.text_floats.proofs.FloatLaws.{Missed, decimals_none, decimals_stop, decimals_go, decimals_end}
+use Rattle.text_floats.proofs.FloatLaws.{decimals_none, decimals_stop, decimals_go, decimals_end}
 use Rattle.text_floats.proofs.decimals.Goals as goal
 
 pub loop-i-init : goal.loop-i-init

@@ -1,6 +1,5 @@
-use Rattle.std.proofs.Common.{◌-◌, ◌≤◌, rules}
-use Rattle.text_floats.specs.Floats.{powers}
-use Rattle.text_floats.proofs.FloatLaws.{Missed, decimals_none, decimals_stop, decimals_go, decimals_end}
+use Rattle.std.proofs.Common.{◌-◌, ◌≤◌}
+use Rattle.text_floats.proofs.FloatLaws.{Missed}
 use Rattle.text_floats.proofs.decimals.Given as goal
 
 abbrev pub invariant-loop-i : goal.invariant-loop-i

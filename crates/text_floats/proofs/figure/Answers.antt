@@ -1,9 +1,9 @@
 -- By whether |x| is between 1e-5 and 1e15: seven significant digits with the sign, or scientific; either way out is the definition's. Assumes nothing.
-use Rattle.std.proofs.Common.{ap, ◌∙◌, ⊎_elim, rules}
+use Rattle.std.proofs.Common.{ap, ◌∙◌}
 use Rattle.text_buffer.specs.Text.{wrote}
 use Rattle.text_floats.proofs.FloatTexts.{seven_places, figure_short, figure_large, figure_small}
 use Rattle.text_floats.proofs.figure.Goals as goal
-use Rattle.text_floats.proofs.figure.Goals.{then-a, else-a}
+use Rattle.text_floats.proofs.figure.Goals.{then-a+else-a-2, else-a}
 
 pub signed-requires : goal.signed-requires
 signed-requires c = seven_places c.args.x _ _ c.seven_significant-s.ensures
@@ -22,6 +22,6 @@ returns c =
     c.scientific.ensures
     ∙ ap (wrote a.out.now a.p)
     (elim c.if-a.branch [
-      | then-a w ↦ figure_large a.x _ e w.if-a.true w.1.left
-      | else-a w ↦ figure_small a.x _ e w.left
+      | then-a+else-a-2 w ↦ figure_large a.x _ e w.if-a.true w.if-a-2.false
+      | else-a w ↦ figure_small a.x _ e w.if-a.false
     ])

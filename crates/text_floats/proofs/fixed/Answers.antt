@@ -1,9 +1,9 @@
 -- By whether there are at most 15 decimals and then at most 15 digits: the nearest whole number with its point, or scientific. Assumes nothing.
-use Rattle.std.proofs.Common.{ap, ◌∙◌, ⊎_elim, rules}
+use Rattle.std.proofs.Common.{ap, ◌∙◌}
 use Rattle.text_buffer.specs.Text.{wrote}
 use Rattle.text_floats.proofs.FloatTexts.{fixed_short, fixed_large, fixed_many}
 use Rattle.text_floats.proofs.fixed.Goals as goal
-use Rattle.text_floats.proofs.fixed.Goals.{then-decimals-le15, else-decimals-le15}
+use Rattle.text_floats.proofs.fixed.Goals.{then-decimals-le15+else-m, else-decimals-le15}
 
 pub returns-then-m : goal.returns-then-m
 returns-then-m c =
@@ -18,6 +18,6 @@ returns c =
     c.scientific.ensures
     ∙ ap (wrote a.out.now a.p)
     (elim c.if-decimals-le15.branch [
-      | then-decimals-le15 w ↦ fixed_large a.x a.decimals w.1.result w.1.ensures w.if-decimals-le15.true w.2.left
-      | else-decimals-le15 w ↦ fixed_many a.x a.decimals w.left
+      | then-decimals-le15+else-m w ↦ fixed_large a.x a.decimals w.shifted-m.result w.shifted-m.ensures w.if-decimals-le15.true w.if-m.false
+      | else-decimals-le15 w ↦ fixed_many a.x a.decimals w.if-decimals-le15.false
     ])

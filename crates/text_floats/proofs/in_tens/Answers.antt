@@ -1,5 +1,5 @@
 -- By whether x is below 1, which settles which of the two loops it is. Assumes nothing.
-use Rattle.std.proofs.Common.{sym, ◌∙◌, rules}
+use Rattle.std.proofs.Common.{sym, ◌∙◌}
 use Rattle.math.specs.laws.Loops.{pick_true, pick_false}
 use Rattle.text_floats.specs.Floats.{in_tens}
 use Rattle.text_floats.proofs.in_tens.Goals as goal

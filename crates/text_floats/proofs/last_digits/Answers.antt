@@ -1,6 +1,6 @@
 -- The places from i on hold the last digits, and rest is the number before them. Assumes nothing.
-use Rattle.std.proofs.Common.{◌≡◌, ◌≤◌, length, refl, rules}
-use Rattle.text_floats.proofs.FloatLaws.{Digits_from, digits_none, digits_step, digits_all}
+use Rattle.std.proofs.Common.{length, refl, rules}
+use Rattle.text_floats.proofs.FloatLaws.{digits_none, digits_step, digits_all}
 use Rattle.text_floats.proofs.last_digits.Goals as goal
 
 pub loop-i-init : goal.loop-i-init
@@ -15,4 +15,5 @@ loop-i-preserved c =
 pub returns : goal.returns
 returns c =
     let l = c.loop-i in
-    digits_all c.args.n (length c.args.text.now) l.rest l.text l.i (search rules) l.invariant.2
+    let d = digits_all c.args.n (length c.args.text.now) l.rest l.text l.i (search rules) l.invariant.2 in
+    record { text_after = d.0; value = d.1 }

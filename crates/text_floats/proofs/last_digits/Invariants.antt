@@ -1,5 +1,5 @@
-use Rattle.std.proofs.Common.{◌≡◌, ◌≤◌, length, refl, rules}
-use Rattle.text_floats.proofs.FloatLaws.{Digits_from, digits_none, digits_step, digits_all}
+use Rattle.std.proofs.Common.{◌≡◌, ◌≤◌, length}
+use Rattle.text_floats.proofs.FloatLaws.{Digits_from}
 use Rattle.text_floats.proofs.last_digits.Given as goal
 
 abbrev pub invariant-loop-i : goal.invariant-loop-i

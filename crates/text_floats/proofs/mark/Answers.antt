@@ -1,5 +1,5 @@
 -- By whether the power has one digit, and then by its sign: four texts. Assumes nothing.
-use Rattle.std.proofs.Common.{rules, le-ltb, lt-ltb}
+use Rattle.std.proofs.Common.{le-ltb, lt-ltb}
 use Rattle.text_floats.specs.Floats.{mark_text}
 use Rattle.text_floats.proofs.mark.Goals as goal
 

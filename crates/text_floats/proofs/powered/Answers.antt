@@ -1,5 +1,4 @@
 -- Three texts one after the other. Assumes nothing.
-use Rattle.std.proofs.Common.{rules}
 use Rattle.text_floats.specs.Floats.{powered_text}
 use Rattle.text_floats.proofs.FloatTexts.{three_texts}
 use Rattle.text_floats.proofs.powered.Goals as goal

@@ -1,6 +1,5 @@
-use Rattle.std.proofs.Common.{◌≡◌, ◌-◌, ◌≤◌, sym, refl, ◌∙◌, rules}
+use Rattle.std.proofs.Common.{◌≡◌, ◌-◌, ◌≤◌}
 use Rattle.text_floats.specs.Floats.{divided}
-use Rattle.text_floats.proofs.FloatLaws.{divided_stop, divided_go, divided_done}
 use Rattle.text_floats.proofs.scaled_down.Given as goal
 
 abbrev pub invariant-loop-e : goal.invariant-loop-e

@@ -1,6 +1,5 @@
 -- The loop is the definition's, with what is left of 400 turns. Assumes nothing.
-use Rattle.std.proofs.Common.{◌≡◌, ◌-◌, ◌≤◌, sym, refl, ◌∙◌, rules}
-use Rattle.text_floats.specs.Floats.{multiplied}
+use Rattle.std.proofs.Common.{sym, refl, ◌∙◌, rules}
 use Rattle.text_floats.proofs.FloatLaws.{multiplied_stop, multiplied_go, multiplied_done}
 use Rattle.text_floats.proofs.scaled_up.Goals as goal
 

@@ -1,6 +1,5 @@
-use Rattle.std.proofs.Common.{◌≡◌, ◌-◌, ◌≤◌, sym, refl, ◌∙◌, rules}
+use Rattle.std.proofs.Common.{◌≡◌, ◌-◌, ◌≤◌}
 use Rattle.text_floats.specs.Floats.{multiplied}
-use Rattle.text_floats.proofs.FloatLaws.{multiplied_stop, multiplied_go, multiplied_done}
 use Rattle.text_floats.proofs.scaled_up.Given as goal
 
 abbrev pub invariant-loop-e : goal.invariant-loop-e

@@ -1,5 +1,5 @@
 -- By cases on the float: a NaN, a zero, a finite number by its seven digits, and the two infinities. Assumes nothing.
-use Rattle.std.proofs.Common.{sym, ap, ◌∙◌, rules}
+use Rattle.std.proofs.Common.{sym, ap, ◌∙◌}
 use Rattle.text_buffer.specs.Text.{wrote}
 use Rattle.text_floats.specs.Floats.{in_tens, seven_digits}
 use Rattle.text_floats.proofs.FloatTexts.{power_bound, of_nan, of_zero, of_finite, of_minus, of_plus}

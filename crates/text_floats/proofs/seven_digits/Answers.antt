@@ -1,5 +1,5 @@
 -- By whether the digits round up to 10, and then how the next power is written: one less, none, or one more. Assumes nothing.
-use Rattle.std.proofs.Common.{◌∙◌, rules}
+use Rattle.std.proofs.Common.{◌∙◌}
 use Rattle.text_floats.proofs.FloatTexts.{seven_are, seven_next, next_small, next_one, next_large}
 use Rattle.text_floats.proofs.seven_digits.Goals as goal
 

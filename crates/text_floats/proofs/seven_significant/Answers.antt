@@ -1,5 +1,5 @@
 -- What each callee answers, put together. Assumes nothing.
-use Rattle.std.proofs.Common.{◌∙◌, arith, rules}
+use Rattle.std.proofs.Common.{◌∙◌, arith}
 use Rattle.text_floats.specs.Floats.{seven_significant}
 use Rattle.text_floats.proofs.FloatLaws.{decimals_le}
 use Rattle.text_floats.proofs.seven_significant.Goals as goal

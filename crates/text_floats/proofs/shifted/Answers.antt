@@ -1,5 +1,5 @@
 -- The power is ten to the turns made. Assumes nothing.
-use Rattle.std.proofs.Common.{◌≡◌, ◌-◌, ◌^◌, ◌≤◌, refl, ap, ◌∙◌, arith, rules}
+use Rattle.std.proofs.Common.{◌≡◌, ◌^◌, refl, ap, ◌∙◌, arith, rules}
 use Rattle.text_floats.specs.Floats.{tens}
 use Rattle.text_floats.proofs.FloatLaws.{ten_small, ten_more}
 use Rattle.text_floats.proofs.shifted.Goals as goal

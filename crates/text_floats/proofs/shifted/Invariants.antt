@@ -1,6 +1,4 @@
-use Rattle.std.proofs.Common.{◌≡◌, ◌-◌, ◌^◌, ◌≤◌, refl, ap, ◌∙◌, arith, rules}
-use Rattle.text_floats.specs.Floats.{tens}
-use Rattle.text_floats.proofs.FloatLaws.{ten_small, ten_more}
+use Rattle.std.proofs.Common.{◌≡◌, ◌-◌, ◌^◌, ◌≤◌}
 use Rattle.text_floats.proofs.shifted.Given as goal
 
 abbrev pub invariant-loop-i : goal.invariant-loop-i

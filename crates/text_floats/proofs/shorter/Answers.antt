@@ -1,6 +1,5 @@
 -- The loop goes on with the zero at the end cut off. Assumes nothing.
-use Rattle.std.proofs.Common.{◌≡◌, sym, refl, ◌∙◌, rules}
-use Rattle.text_floats.specs.Floats.{shortened}
+use Rattle.std.proofs.Common.{sym, ◌∙◌, rules}
 use Rattle.text_floats.proofs.FloatLaws.{shortened_stop, shortened_go, shortened_end}
 use Rattle.text_floats.proofs.shorter.Goals as goal
 

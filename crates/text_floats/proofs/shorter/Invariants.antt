@@ -1,6 +1,5 @@
-use Rattle.std.proofs.Common.{◌≡◌, sym, refl, ◌∙◌, rules}
+use Rattle.std.proofs.Common.{◌≡◌}
 use Rattle.text_floats.specs.Floats.{shortened}
-use Rattle.text_floats.proofs.FloatLaws.{shortened_stop, shortened_go, shortened_end}
 use Rattle.text_floats.proofs.shorter.Given as goal
 
 abbrev pub invariant-loop-k : goal.invariant-loop-k

@@ -1,8 +1,8 @@
 -- The sign, where there is one, and then the digits. Assumes nothing.
-use Rattle.std.proofs.Common.{[], ⊎_elim, rules}
+use Rattle.std.proofs.Common.{[]}
 use Rattle.text_floats.proofs.FloatTexts.{two_texts, with_sign_lem, no_sign, zero_sign}
 use Rattle.text_floats.proofs.signed.Goals as goal
-use Rattle.text_floats.proofs.signed.Goals.{then-x, else-x}
+use Rattle.text_floats.proofs.signed.Goals.{then-x+else-n-gt0, else-x}
 
 pub returns-then-n-gt0 : goal.returns-then-n-gt0
 returns-then-n-gt0 c =
@@ -14,6 +14,6 @@ pub returns : goal.returns
 returns c =
     let a = c.args in
     elim c.if-x.branch [
-      | then-x w ↦ rw (zero_sign a.x a.n a.d w.1.left) c.point-2.ensures
-      | else-x w ↦ rw (no_sign a.x a.n a.d w.left) c.point-2.ensures
+      | then-x+else-n-gt0 w ↦ rw (zero_sign a.x a.n a.d w.if-n-gt0.false) c.point-2.ensures
+      | else-x w ↦ rw (no_sign a.x a.n a.d w.if-x.false) c.point-2.ensures
     ]

@@ -1,8 +1,7 @@
 -- What opens a float's text for computation.
 use Rattle.std.specs.Float.Ieee.{lt, le, eq, of_int, of_bits, round}
 use Rattle.std.specs.Float.Ieee as Ieee
-use Rattle.math.specs.Basic.{mul, div, abs_of}
-use Rattle.math.specs.Basic as Basic
+use Rattle.math.specs.Basic.{abs_of}
 use Rattle.math.specs.Loops.{until}
 use Rattle.text_buffer.specs.Text.{decimal_digits}
 use Rattle.text_floats.specs.Floats.{nearest_whole, last_digits, fraction_text, point_text, shortened, sign_text, signed_text, divided, multiplied, in_tens, next_power, seven_digits, mark_text, powered_text, scientific_text, tens, fixed_text, powers, missed, decimals_of, seven_significant, figure_text}

@@ -2,7 +2,6 @@
 use mathlib.Core.Path.{sym, ap, ◌∙◌}
 use borrow.Author.Tests.{not-true, not-false}
 use Rattle.block_solve.specs.Direction.{is_direction, left_in}
-use borrow.Author.Rules.{rules}
 use Rattle.math.specs.Basic.{is_finite}
 use Rattle.math.specs.Lists.{every}
 use Rattle.block_solve.proofs.Laws.{finished_none, finished_singular, finished_solved, is_direction_lem}

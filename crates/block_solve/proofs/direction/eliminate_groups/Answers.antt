@@ -1,7 +1,6 @@
 -- What is left of the definition, from the state reached, is the definition from the start; a group without a solution ends both. Assumes nothing.
 use Rattle.group_blocks.specs.declared.Columns.{Columns}
-use mathlib.Core.Path.{◌≡◌, refl, sym, ap, ◌∙◌}
-use Prim.Native.Nat.{◌-◌, ◌≤◌}
+use mathlib.Core.Path.{refl, sym, ap, ◌∙◌}
 use Rattle.math.specs.laws.Loops.{pick_true, pick_false}
 use mathlib.Core.Bool.{true, not}
 use borrow.Author.Tests.{not-true, not-false}
@@ -9,7 +8,6 @@ use Rattle.block_solve.specs.Direction.{untouched, groups_from, eliminated_of}
 use Rattle.block_solve.proofs.Laws.{groups_stop, groups_go, groups_done}
 use Rattle.linalg.specs.Pair.{is_none}
 use native.Mathlib.Omega.{arith}
-use borrow.Author.Rules.{rules}
 use Rattle.block_solve.proofs.direction.eliminate_groups.Goals as goal
 
 pub loop-g-init : goal.loop-g-init

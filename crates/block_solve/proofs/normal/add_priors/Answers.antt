@@ -1,20 +1,11 @@
--- A group's effects are a part of b that lies within it (`group-fits`); each turn adds what the definition adds. Assumes nothing.
+-- A group's effects are a part of b that lies within it (`group_fits`); each turn adds what the definition adds. Assumes nothing.
 use mathlib.Core.Path.{◌≡◌, ◌∙◌}
-use Prim.Native.Nat.{◌-◌, ◌+◌, ◌*◌, ◌≤◌}
+use Prim.Native.Nat.{◌-◌, ◌+◌, ◌*◌}
 use Rattle.math.specs.laws.Parts.{group_fits}
-use Rattle.math.specs.Loops.{iter}
 use Rattle.math.specs.laws.Loops.{iter_none, iter_more, iter_all}
-use Rattle.block_solve.specs.Normal.{prior_at, prior_row, prior_group, add_priors}
+use Rattle.block_solve.specs.Normal.{prior_row, prior_group, add_priors}
 use native.Mathlib.Omega.{arith}
 use Rattle.block_solve.proofs.normal.add_priors.Goals as goal
-
-element-copy-out-n :
-    tie.Need-element-copy-out-n invariant-loop3 decreases-loop3 invariant-loop2 decreases-loop2 invariant-loop decreases-loop
-element-copy-out-n c = omega arith
-
-element-copy-out-n-2 :
-    tie.Need-element-copy-out-n-2 invariant-loop3 decreases-loop3 invariant-loop2 decreases-loop2 invariant-loop decreases-loop
-element-copy-out-n-2 c = omega arith
 
 pub loop-g-init : goal.loop-g-init
 loop-g-init c = (omega arith, iter_none _ _)
@@ -65,7 +56,7 @@ loop-i-preserved c =
     let t = c.loop-i in
     let s = c.loop-j in
     let z = iter_all _ a.k _ _ s.invariant.1 s.invariant.0 c.loop-j-test.false in
-    let m = iter_more (prior_row a.k a.t4 a.b.now o.g) t.i _ t.invariant.1 in
+    let m = iter_more (prior_row a.k a.inverse a.b.now o.g) t.i _ t.invariant.1 in
     let e : o.g * a.k + a.k - o.g * a.k ≡ a.k = omega arith in
     (omega arith, rw (rw e at c.times-d.ensures, z) m)
 
@@ -74,7 +65,7 @@ loop-g-preserved c =
     let a = c.args in
     let t = c.loop-g in
     let e = iter_all _ a.k _ _ c.loop-i.invariant.1 c.loop-i.invariant.0 c.loop-i-test.false in
-    (omega arith, e ∙ iter_more (prior_group a.k a.t4 a.b.now) _ _ t.invariant.1)
+    (omega arith, e ∙ iter_more (prior_group a.k a.inverse a.b.now) _ _ t.invariant.1)
 
 pub returns : goal.returns
 unfolding add_priors

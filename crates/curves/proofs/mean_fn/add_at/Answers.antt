@@ -2,7 +2,6 @@
 use mathlib.Core.Path.{refl}
 use native.Mathlib.Omega.{arith}
 use Rattle.curves.proofs.Laws.{set_past}
-use borrow.Author.Rules.{rules}
 use Rattle.curves.proofs.mean_fn.add_at.Goals as goal
 
 pub returns-then-i-eq0 : goal.returns-then-i-eq0

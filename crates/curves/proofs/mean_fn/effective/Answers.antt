@@ -1,9 +1,7 @@
 -- The effects not yet added, from r on, bring the values reached so far to the same values at every turn. Assumes nothing.
-use Prim.Native.Nat.{◌-◌, ◌≤◌}
-use mathlib.Core.Path.{◌≡◌, refl, ◌∙◌}
-use lib.ListN.{drop, length}
+use mathlib.Core.Path.{refl, ◌∙◌}
+use lib.ListN.{drop}
 use native.Mathlib.Omega.{arith}
-use Rattle.curves.specs.MeanFn.{effective_of}
 use Rattle.curves.proofs.Laws.{effective_more, effective_done, effective_short}
 use Rattle.curves.proofs.mean_fn.effective.Goals as goal
 

@@ -1,9 +1,8 @@
+-- The effects from r on bring the values reached so far to what all of them bring the first values to; the measure is the number of indices left.
 use Prim.Native.Nat.{◌-◌, ◌≤◌}
-use mathlib.Core.Path.{◌≡◌, refl, ◌∙◌}
+use mathlib.Core.Path.{◌≡◌}
 use lib.ListN.{drop, length}
-use native.Mathlib.Omega.{arith}
 use Rattle.curves.specs.MeanFn.{effective_of}
-use Rattle.curves.proofs.Laws.{effective_more, effective_done, effective_short}
 use Rattle.curves.proofs.mean_fn.effective.Given as goal
 
 abbrev pub invariant-loop-r : goal.invariant-loop-r

@@ -2,7 +2,6 @@
 use Rattle.curves.proofs.Laws.{test}
 use borrow.Author.Tests.{ne_eqb}
 use Rattle.curves.specs.MeanFn.{eval_of}
-use borrow.Author.Rules.{rules}
 use Rattle.curves.proofs.mean_fn.eval.Goals as goal
 
 pub returns-in-1 : goal.returns-in-1
@@ -20,5 +19,5 @@ returns-in-3 c = simp (c.ssmicmen_eval.ensures, test 1 c.in-3.is, test 2 c.in-3.
 pub returns-in_default : goal.returns-in_default
 unfolding eval_of
 returns-in_default c =
-    let none = c.in_default.rest in
+    let none = c.in_default.in_default-own.rest in
     simp (c.ssfpl_eval.ensures, ne_eqb _ _ none.0.0.1, ne_eqb _ _ none.0.1, ne_eqb _ _ none.1)

@@ -14,4 +14,4 @@ returns-in-4 c = sym (ap n_params_of c.in-4.is)
 
 pub returns-in_default : goal.returns-in_default
 unfolding n_params_of
-returns-in_default c = simp (ne_eqb _ _ c.in_default.rest.0.1, ne_eqb _ _ c.in_default.rest.1)
+returns-in_default c = simp (ne_eqb _ _ c.in_default.in_default-own.rest.0.1, ne_eqb _ _ c.in_default.in_default-own.rest.1)

@@ -1,6 +1,5 @@
 -- The two exponentials are the definition's, and the rest is the same arithmetic in the same order.
 use Rattle.curves.specs.Ssasymp.{ssasymp_of}
-use borrow.Author.Rules.{rules}
 use Rattle.curves.proofs.ssasymp.ssasymp_eval.Goals as goal
 
 pub returns : goal.returns

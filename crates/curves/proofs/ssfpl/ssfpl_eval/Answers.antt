@@ -1,6 +1,5 @@
 -- The logistic parts and the gradient by scal are the definition's, and each place of the answer follows from them.
 use Rattle.curves.specs.Ssfpl.{ssfpl_of}
-use borrow.Author.Rules.{rules}
 use Rattle.curves.proofs.ssfpl.ssfpl_eval.Goals as goal
 
 pub returns : goal.returns

@@ -1,6 +1,5 @@
 -- By the sign of t, which tells whether the smaller tail is the fraction or its complement.
 use Rattle.curves.specs.Sslogis.{parts_of}
-use borrow.Author.Rules.{rules}
 use Rattle.curves.proofs.sslogis.logistic_parts.Goals as goal
 
 pub returns-then-t : goal.returns-then-t

@@ -1,9 +1,7 @@
 -- +0 where both tests hold; each way to the product has one of the definition's two tests failed.
-use mathlib.Core.Logic.{⊎_elim}
 use Rattle.curves.specs.Sslogis.{scal_gradient}
-use borrow.Author.Rules.{rules}
 use Rattle.curves.proofs.sslogis.scal_gradient.Goals as goal
-use Rattle.curves.proofs.sslogis.scal_gradient.Goals.{thense-is_infinite, elsese-is_infinite}
+use Rattle.curves.proofs.sslogis.scal_gradient.Goals.{else-is_infinite-via-then-is_infinite+else-slope, else-is_infinite-via-else-is_infinite}
 
 pub returns-then-slope : goal.returns-then-slope
 unfolding scal_gradient
@@ -13,4 +11,7 @@ pub returns-else-is_infinite : goal.returns-else-is_infinite
 unfolding scal_gradient
 returns-else-is_infinite c =
     let k = c.is_infinite in
-    ⊎_elim (λ w. simp (← k.ensures, w.0.taken, w.1.left)) (λ w. simp (← k.ensures, w.left)) c.else-is_infinite.branch
+    elim c.else-is_infinite.branch [
+      | else-is_infinite-via-then-is_infinite+else-slope w ↦ simp (← k.ensures, w.if-is_infinite.true, w.if-slope.false)
+      | else-is_infinite-via-else-is_infinite w ↦ simp (← k.ensures, w.if-is_infinite.false)
+    ]

@@ -1,6 +1,5 @@
 -- The parts of t are worked out once, and each place of the answer is the definition's from them.
 use Rattle.curves.specs.Sslogis.{sslogis_of}
-use borrow.Author.Rules.{rules}
 use Rattle.curves.proofs.sslogis.sslogis_eval.Goals as goal
 
 pub returns : goal.returns

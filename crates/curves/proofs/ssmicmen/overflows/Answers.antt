@@ -1,6 +1,5 @@
 -- Each return is the definition's conjunction, decided by the first of the three tests that fails or by the last.
 use Rattle.curves.specs.Ssmicmen.{overflow_of}
-use borrow.Author.Rules.{rules}
 use Rattle.curves.proofs.ssmicmen.overflows.Goals as goal
 
 pub returns-then-is_finite : goal.returns-then-is_finite

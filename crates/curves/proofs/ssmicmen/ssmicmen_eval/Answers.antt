@@ -1,6 +1,5 @@
 -- By whether k + x overflows: divided by the larger size first, or with scale 1.
 use Rattle.curves.specs.Ssmicmen.{ssmicmen_of}
-use borrow.Author.Rules.{rules}
 use Rattle.curves.proofs.ssmicmen.ssmicmen_eval.Goals as goal
 
 pub returns-then-overflows : goal.returns-then-overflows

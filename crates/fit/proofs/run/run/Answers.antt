@@ -59,7 +59,7 @@ returns-then-not-o c =
     let o = c.round-o.result in
     let q = (given g.code g.effects.now g.groups g.doses.now g.grams.now g.group.now g.lower.now g.upper.now g.group_lower.now g.group_upper.now g.theta.now g.starts.now) in
     let blocks = c.normal-n.ensures ∙ ap (λ (m : List (List Float)). blocks_of g.code g.effects.now g.doses.now g.grams.now g.group.now g.lower.now g.upper.now g.groups m L.x.state) c.sigma_inv_from_theta-inverse.ensures in
-    c.end_with.ensures ∙ round_lost q g.allowed L.rounds L.x c.normal-n.result L.lambda L.trials o _ c.loop-rounds-test.true blocks L.invariant.evaluated (c.round-o.ensures.round g.starts.now) L.invariant.whole (not-true _ c.if-not-o.true)
+    c.end_with.ensures ∙ round_lost q g.allowed L.rounds L.x c.normal-n.result L.lambda L.trials o _ c.loop-rounds-test.true blocks L.invariant.evaluated (c.round-o.ensures.round g.starts.now) L.invariant.whole c.if-not-o.true
 
 pub shape_of-d-then-o : goal.shape_of-d-then-o
 shape_of-d-then-o c = let e = c.d-1.given ∙ c.loop-rounds.invariant.same_d in search rules
@@ -74,7 +74,7 @@ returns-then-o c =
     let o = c.round-o.result in
     let q = (given g.code g.effects.now g.groups g.doses.now g.grams.now g.group.now g.lower.now g.upper.now g.group_lower.now g.group_upper.now g.theta.now g.starts.now) in
     let blocks = c.normal-n.ensures ∙ ap (λ (m : List (List Float)). blocks_of g.code g.effects.now g.doses.now g.grams.now g.group.now g.lower.now g.upper.now g.groups m L.x.state) c.sigma_inv_from_theta-inverse.ensures in
-    let w = not-false _ c.if-not-o.false in
+    let w = c.if-not-o.false in
     c.end_with-then-o.ensures ∙ round_near q g.allowed L.rounds L.x c.normal-n.result L.lambda L.trials o _ c.loop-rounds-test.true blocks L.invariant.evaluated (c.round-o.ensures.round g.starts.now) L.invariant.whole w (c.round-o.ensures.evaluated w) c.if-o.true
 
 pub loop-rounds-smaller : goal.loop-rounds-smaller
@@ -87,7 +87,7 @@ loop-rounds-preserved c =
     let o = c.round-o.result in
     let q = (given g.code g.effects.now g.groups g.doses.now g.grams.now g.group.now g.lower.now g.upper.now g.group_lower.now g.group_upper.now g.theta.now g.starts.now) in
     let blocks = c.normal-n.ensures ∙ ap (λ (m : List (List Float)). blocks_of g.code g.effects.now g.doses.now g.grams.now g.group.now g.lower.now g.upper.now g.groups m L.x.state) c.sigma_inv_from_theta-inverse.ensures in
-    let w = not-false _ c.if-not-o.false in
+    let w = c.if-not-o.false in
     record {
       most = omega (arith, c.loop-rounds-test.true);
       few = omega (arith, L.invariant.few, c.round-o.ensures.few);

@@ -1,11 +1,7 @@
 -- `clamp_slot`: effect r of group g stands at g * k + r, below 64. Assumes nothing.
-use mathlib.Core.Path.{◌≡◌}
-use Prim.Native.Nat.{◌-◌, ◌≤◌}
 use native.Mathlib.Omega.{arith}
-use borrow.Author.Rules.{rules}
-use Rattle.math.specs.Loops.{iter}
 use Rattle.math.specs.laws.Loops.{iter_all, iter_more, iter_none}
-use Rattle.fit_step.specs.Project.{group_clamp, slot_at, slot_of}
+use Rattle.fit_step.specs.Project.{slot_of}
 use Rattle.fit_step.specs.laws.Sized.{slot_fits}
 use Rattle.fit_step.proofs.project.clamp_slot.Goals as goal
 

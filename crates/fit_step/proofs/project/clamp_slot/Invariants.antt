@@ -1,11 +1,8 @@
+-- Effect r of the first g groups is projected, the others are as they came; the measure is the number of groups left.
 use mathlib.Core.Path.{◌≡◌}
 use Prim.Native.Nat.{◌-◌, ◌≤◌}
-use native.Mathlib.Omega.{arith}
-use borrow.Author.Rules.{rules}
 use Rattle.math.specs.Loops.{iter}
-use Rattle.math.specs.laws.Loops.{iter_all, iter_more, iter_none}
-use Rattle.fit_step.specs.Project.{group_clamp, slot_at, slot_of}
-use Rattle.fit_step.specs.laws.Sized.{slot_fits}
+use Rattle.fit_step.specs.Project.{group_clamp, slot_at}
 use Rattle.fit_step.proofs.project.clamp_slot.Given as goal
 
 abbrev pub invariant-loop-g : goal.invariant-loop-g

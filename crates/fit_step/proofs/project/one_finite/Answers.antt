@@ -1,6 +1,5 @@
 -- A finite lower bound decides the disjunction; else the upper one does.
 use mathlib.Core.Path.{◌∙◌, refl, sym}
-use borrow.Author.Rules.{rules}
 use Rattle.fit_step.proofs.project.one_finite.Goals as goal
 
 pub returns-then-is_finite : goal.returns-then-is_finite

@@ -1,12 +1,9 @@
 -- c is what the projections of the first r effects leave, each from what the one before left.
-use mathlib.Core.Path.{◌∙◌, ◌≡◌}
-use Prim.Native.Nat.{◌-◌, ◌≤◌}
+use mathlib.Core.Path.{◌∙◌}
 use native.Mathlib.Omega.{arith}
-use borrow.Author.Rules.{rules}
 use lib.ListN.{length}
-use Rattle.math.specs.Loops.{iter}
 use Rattle.math.specs.laws.Loops.{iter_all, iter_more, iter_none}
-use Rattle.fit_step.specs.Project.{project_groups, project_slot}
+use Rattle.fit_step.specs.Project.{project_groups}
 use Rattle.fit_step.proofs.project.project_group_params.Goals as goal
 
 pub loop-r-init : goal.loop-r-init

@@ -1,11 +1,9 @@
-use mathlib.Core.Path.{◌∙◌, ◌≡◌}
+-- c is what the projections of the first r effects leave; the measure is the number of effects left.
+use mathlib.Core.Path.{◌≡◌}
 use Prim.Native.Nat.{◌-◌, ◌≤◌}
-use native.Mathlib.Omega.{arith}
-use borrow.Author.Rules.{rules}
 use lib.ListN.{length}
 use Rattle.math.specs.Loops.{iter}
-use Rattle.math.specs.laws.Loops.{iter_all, iter_more, iter_none}
-use Rattle.fit_step.specs.Project.{project_groups, project_slot}
+use Rattle.fit_step.specs.Project.{project_slot}
 use Rattle.fit_step.proofs.project.project_group_params.Given as goal
 
 abbrev pub invariant-loop-r : goal.invariant-loop-r

@@ -1,12 +1,8 @@
 -- The first i values are clamped, each between the bounds that stand at its place.
-use mathlib.Core.Path.{◌≡◌}
-use Prim.Native.Nat.{◌-◌, ◌≤◌}
 use native.Mathlib.Omega.{arith}
-use borrow.Author.Rules.{rules}
-use Rattle.math.specs.Loops.{iter}
 use Rattle.math.specs.laws.Loops.{iter_all, iter_more, iter_none}
-use Rattle.fit_step.specs.Lists.{each, each_at}
-use Rattle.fit_step.specs.Project.{clamp_at, project_of}
+use Rattle.fit_step.specs.Lists.{each}
+use Rattle.fit_step.specs.Project.{project_of}
 use Rattle.fit_step.proofs.project.project_params.Goals as goal
 
 pub loop-i-init : goal.loop-i-init

@@ -1,11 +1,9 @@
+-- The first i values are clamped, the others are as they came; the measure is the number of values left.
 use mathlib.Core.Path.{◌≡◌}
 use Prim.Native.Nat.{◌-◌, ◌≤◌}
-use native.Mathlib.Omega.{arith}
-use borrow.Author.Rules.{rules}
 use Rattle.math.specs.Loops.{iter}
-use Rattle.math.specs.laws.Loops.{iter_all, iter_more, iter_none}
-use Rattle.fit_step.specs.Lists.{each, each_at}
-use Rattle.fit_step.specs.Project.{clamp_at, project_of}
+use Rattle.fit_step.specs.Lists.{each_at}
+use Rattle.fit_step.specs.Project.{clamp_at}
 use Rattle.fit_step.proofs.project.project_params.Given as goal
 
 abbrev pub invariant-loop-i : goal.invariant-loop-i

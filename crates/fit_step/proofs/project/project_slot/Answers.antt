@@ -1,7 +1,6 @@
 -- `project_slot`: the two arms are the definition's, by its test of the bounds. Assumes nothing.
 use mathlib.Core.Path.{◌∙◌, sym}
 use native.Mathlib.Omega.{arith}
-use borrow.Author.Rules.{rules}
 use Rattle.math.specs.laws.Loops.{pick_false, pick_true}
 use Rattle.fit_step.proofs.project.project_slot.Goals as goal
 

@@ -1,6 +1,5 @@
 -- The code's one test, of the value's size, is the definition's.
 use mathlib.Core.Path.{sym}
-use borrow.Author.Rules.{rules}
 use Rattle.math.specs.laws.Loops.{pick_false, pick_true}
 use Rattle.fit_step.proofs.trial.adjust.Goals as goal
 

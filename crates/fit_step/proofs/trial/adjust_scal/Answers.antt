@@ -1,6 +1,5 @@
 -- By the code: scal is the third value of curve 1 and the fourth of curve 4, and no other curve has one.
 use mathlib.Core.Path.{refl}
-use borrow.Author.Rules.{rules}
 use borrow.Author.Tests.{eq-eqb, ne_eqb}
 use Rattle.fit_step.specs.Trial.{on_scal}
 use Rattle.fit_step.proofs.trial.adjust_scal.Goals as goal

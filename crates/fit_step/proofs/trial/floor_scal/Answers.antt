@@ -1,6 +1,5 @@
 -- By the code, as for `adjust_scal`: only the place of scal changes.
 use mathlib.Core.Path.{refl}
-use borrow.Author.Rules.{rules}
 use borrow.Author.Tests.{eq-eqb, ne_eqb}
 use Rattle.fit_step.specs.Trial.{on_scal}
 use Rattle.fit_step.proofs.trial.floor_scal.Goals as goal

@@ -1,5 +1,4 @@
 -- `max` promises what the definition says.
-use borrow.Author.Rules.{rules}
 use Rattle.fit_step.specs.Trial.{lowered}
 use Rattle.fit_step.proofs.trial.lower_lambda.Goals as goal
 

@@ -1,11 +1,8 @@
 -- The first j effects are moved; n is at most 64 and d has p + n components, so both are in reach.
-use mathlib.Core.Path.{◌≡◌}
-use Prim.Native.Nat.{◌-◌, ◌≤◌}
 use native.Mathlib.Omega.{arith}
-use Rattle.math.specs.Loops.{iter}
 use Rattle.math.specs.laws.Loops.{iter_all, iter_more, iter_none}
-use Rattle.fit_step.specs.Lists.{each, each_at}
-use Rattle.fit_step.specs.Trial.{moved_at, moved_of}
+use Rattle.fit_step.specs.Lists.{each}
+use Rattle.fit_step.specs.Trial.{moved_of}
 use Rattle.fit_step.proofs.trial.move_effects.Goals as goal
 
 pub loop-j-init : goal.loop-j-init

@@ -1,10 +1,9 @@
+-- The first j effects are moved, the others are as they came; the measure is the number of effects left.
 use mathlib.Core.Path.{◌≡◌}
 use Prim.Native.Nat.{◌-◌, ◌≤◌}
-use native.Mathlib.Omega.{arith}
 use Rattle.math.specs.Loops.{iter}
-use Rattle.math.specs.laws.Loops.{iter_all, iter_more, iter_none}
-use Rattle.fit_step.specs.Lists.{each, each_at}
-use Rattle.fit_step.specs.Trial.{moved_at, moved_of}
+use Rattle.fit_step.specs.Lists.{each_at}
+use Rattle.fit_step.specs.Trial.{moved_at}
 use Rattle.fit_step.proofs.trial.move_effects.Given as goal
 
 abbrev pub invariant-loop-j : goal.invariant-loop-j

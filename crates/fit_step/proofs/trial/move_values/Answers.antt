@@ -1,14 +1,12 @@
 -- `move_values`: the definition reads d from place 0 on, at 0 + j. Assumes nothing.
-use mathlib.Core.Path.{◌∙◌, ◌≡◌, ap, sym}
-use Prim.Native.Nat.{◌-◌, ◌≤◌}
+use mathlib.Core.Path.{◌∙◌, ap, sym}
 use native.Mathlib.Omega.{arith}
 use native.Mathlib.Nat.{zero-add}
 use lib.ListN.{get_or, set}
 use Rattle.math.specs.Basic.{add, mul}
-use Rattle.math.specs.Loops.{iter}
 use Rattle.math.specs.laws.Loops.{iter_all, iter_more, iter_none}
-use Rattle.fit_step.specs.Lists.{each, each_at}
-use Rattle.fit_step.specs.Trial.{moved_at, moved_of}
+use Rattle.fit_step.specs.Lists.{each}
+use Rattle.fit_step.specs.Trial.{moved_of}
 use lib.Ieee.{nan}
 use Rattle.fit_step.proofs.trial.move_values.Goals as goal
 

@@ -1,14 +1,9 @@
-use mathlib.Core.Path.{◌∙◌, ◌≡◌, ap, sym}
+-- The first j values are moved, the others are as they came; the measure is the number of values left.
+use mathlib.Core.Path.{◌≡◌}
 use Prim.Native.Nat.{◌-◌, ◌≤◌}
-use native.Mathlib.Omega.{arith}
-use native.Mathlib.Nat.{zero-add}
-use lib.ListN.{get_or, set}
-use Rattle.math.specs.Basic.{add, mul}
 use Rattle.math.specs.Loops.{iter}
-use Rattle.math.specs.laws.Loops.{iter_all, iter_more, iter_none}
-use Rattle.fit_step.specs.Lists.{each, each_at}
-use Rattle.fit_step.specs.Trial.{moved_at, moved_of}
-use lib.Ieee.{nan}
+use Rattle.fit_step.specs.Lists.{each_at}
+use Rattle.fit_step.specs.Trial.{moved_at}
 use Rattle.fit_step.proofs.trial.move_values.Given as goal
 
 abbrev pub invariant-loop-j : goal.invariant-loop-j

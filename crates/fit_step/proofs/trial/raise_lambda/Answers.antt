@@ -1,5 +1,4 @@
 -- `min` promises what the definition says.
-use borrow.Author.Rules.{rules}
 use Rattle.fit_step.specs.Trial.{raised}
 use Rattle.fit_step.proofs.trial.raise_lambda.Goals as goal
 

@@ -1,12 +1,8 @@
 -- The first i of at most 4 places hold their starts, and the places after are still +0.
-use mathlib.Core.Path.{◌≡◌}
-use Prim.Native.Nat.{◌-◌, ◌≤◌}
 use native.Mathlib.Omega.{arith}
-use borrow.Author.Rules.{rules}
-use Rattle.math.specs.Loops.{iter}
 use Rattle.math.specs.laws.Loops.{iter_all, iter_more, iter_none}
-use Rattle.fit_step.specs.Lists.{each, each_at}
-use Rattle.fit_step.specs.Trial.{start_at, started}
+use Rattle.fit_step.specs.Lists.{each}
+use Rattle.fit_step.specs.Trial.{started}
 use Rattle.fit_step.proofs.trial.starting_values.Goals as goal
 
 pub loop-i-init : goal.loop-i-init

@@ -1,11 +1,9 @@
+-- The first i places hold their starts, the places after are still +0; the measure is the number of starts left.
 use mathlib.Core.Path.{◌≡◌}
 use Prim.Native.Nat.{◌-◌, ◌≤◌}
-use native.Mathlib.Omega.{arith}
-use borrow.Author.Rules.{rules}
 use Rattle.math.specs.Loops.{iter}
-use Rattle.math.specs.laws.Loops.{iter_all, iter_more, iter_none}
-use Rattle.fit_step.specs.Lists.{each, each_at}
-use Rattle.fit_step.specs.Trial.{start_at, started}
+use Rattle.fit_step.specs.Lists.{each_at}
+use Rattle.fit_step.specs.Trial.{start_at}
 use Rattle.fit_step.proofs.trial.starting_values.Given as goal
 
 abbrev pub invariant-loop-i : goal.invariant-loop-i

@@ -1,12 +1,10 @@
+-- t is the largest size among the first i components, each times alpha; the measure is the number of components left.
 use mathlib.Core.Path.{◌≡◌}
 use Prim.Native.Nat.{◌-◌, ◌≤◌}
-use native.Mathlib.Omega.{arith}
-use borrow.Author.Rules.{rules}
 use lib.ListN.{length}
 use Rattle.math.specs.Basic.{zero}
 use Rattle.math.specs.Loops.{iter}
-use Rattle.math.specs.laws.Loops.{iter_all, iter_more, iter_none}
-use Rattle.fit_step.specs.Trial.{longer_at, step_of}
+use Rattle.fit_step.specs.Trial.{longer_at}
 use Rattle.fit_step.proofs.trial.step_size.Given as goal
 
 abbrev pub invariant-loop-i : goal.invariant-loop-i

@@ -1,7 +1,6 @@
 -- At most 32 groups of 2 effects fit the 64 places; the move and then the projection are the definition's.
 use mathlib.Core.Path.{refl}
 use native.Mathlib.Omega.{arith}
-use borrow.Author.Rules.{rules}
 use Rattle.fit_step.specs.Trial.{effects_tried}
 use Rattle.fit_step.specs.laws.Sized.{all_fit}
 use Rattle.fit_step.proofs.trial.try_effects.Goals as goal

@@ -1,6 +1,5 @@
 -- The values are tried first, and the effects are projected by them, as in the definition.
 use mathlib.Core.Path.{refl}
-use borrow.Author.Rules.{rules}
 use Rattle.fit_step.specs.Trial.{tried_from}
 use Rattle.fit_step.proofs.trial.try_step.Goals as goal
 

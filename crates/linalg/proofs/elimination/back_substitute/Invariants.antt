@@ -1,9 +1,7 @@
 use mathlib.Core.Path.{◌≡◌}
 use Prim.Native.Nat.{◌-◌, ◌+◌, ◌≤◌}
 use Rattle.math.specs.Loops.{span}
-use Rattle.math.specs.laws.Loops.{span_none, span_more, span_all}
-use Rattle.linalg.specs.Elimination.{less_known, known, back_of}
-use native.Mathlib.Omega.{arith}
+use Rattle.linalg.specs.Elimination.{less_known, known}
 use Rattle.linalg.proofs.elimination.back_substitute.Given as goal
 
 abbrev pub invariant-loop-j : goal.invariant-loop-j
@@ -13,7 +11,7 @@ abbrev pub decreases-loop-j : goal.decreases-loop-j
 decreases-loop-j l = l.n - l.j
 
 abbrev pub invariant-loop-t : goal.invariant-loop-t
-invariant-loop-t l = (l.t ≤ l.n) × (l.x ≡ span (known l.n (record { l.a = l.a; l.b = l.b })) 0 l.t l.initial.x)
+invariant-loop-t l = (l.t ≤ l.n) × (l.x ≡ span (known l.n (record { a = l.a; b = l.b })) 0 l.t l.initial.x)
 
 abbrev pub decreases-loop-t : goal.decreases-loop-t
 decreases-loop-t l = l.n - l.t

@@ -2,7 +2,6 @@
 use lib.Ieee.{div, of_bits, round, neg}
 use borrow.Author.Tests.{ne_eqb}
 use Rattle.quadrature.specs.Rules.{nodes_of, weights_of, z3, z5, z7, z9, z11, w3, w5, w7, w9, w11}
-use borrow.Author.Rules.{rules}
 use Rattle.quadrature.proofs.rules.gh_rule.Goals as goal
 
 pub returns-in-3 : goal.returns-in-3
@@ -27,4 +26,4 @@ returns-in-11 c = rw (c.point_at-in-11.ensures, c.in-11.is)
 
 pub returns-in_default : goal.returns-in_default
 unfolding nodes_of weights_of div of_bits
-returns-in_default c = let r = c.in_default.rest in simp (ne_eqb _ _ r.0.0.0.0.1, ne_eqb _ _ r.0.0.0.1, ne_eqb _ _ r.0.0.1, ne_eqb _ _ r.0.1, ne_eqb _ _ r.1)
+returns-in_default c = let r = c.in_default.in_default-own.rest in simp (ne_eqb _ _ r.0.0.0.0.1, ne_eqb _ _ r.0.0.0.1, ne_eqb _ _ r.0.0.1, ne_eqb _ _ r.0.1, ne_eqb _ _ r.1)

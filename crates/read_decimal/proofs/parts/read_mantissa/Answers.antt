@@ -1,22 +1,20 @@
 -- Each place comes from the one before it, and no place is further than the end. Assumes nothing.
-use Rattle.std.proofs.Common.{◌≤◌, length, zero-le, arith, rules}
+use Rattle.std.proofs.Common.{◌≤◌, length, zero-le, arith}
 use Rattle.read_decimal.proofs.PartLaws.{mantissa_is}
 use Rattle.read_decimal.proofs.parts.read_mantissa.Goals as goal
 
-point-le : (c : tie.After-digits-end) → c.digits-end.result ≤ length c.before.before.before.before.args.text.now
-point-le c = c.digits-end.ensures.1.1 (c.before.past.ensures.1.1 zero-le)
-
-end-le : (c : tie.After-digits-end2) → c.digits-end2.result ≤ length c.before.before.before.before.before.before.args.text.now
-end-le c = c.digits-end2.ensures.1.1 (c.before.past2.ensures.1.1 (point-le c.before.before))
-
 pub slice_bounds-number-end : goal.slice_bounds-number-end
-slice_bounds-number-end c = omega (arith, point-le c)
+slice_bounds-number-end c = omega (arith, c.digits_end-point.ensures.lower_bound.1 (c.past-whole.ensures.lower_bound.1 zero-le))
 
 pub slice_bounds-number-end-2 : goal.slice_bounds-number-end-2
-slice_bounds-number-end-2 c = omega (arith, end-le c)
+slice_bounds-number-end-2 c =
+    omega (arith, c.digits_end-end.ensures.lower_bound.1 (c.past-fraction.ensures.lower_bound.1 (c.digits_end-point.ensures.lower_bound.1 (c.past-whole.ensures.lower_bound.1 zero-le))))
 
 pub returns : goal.returns
-returns c = (
-  mantissa_is c.args.text.now _ _ _ _ _ _ _ _ c.stands-negative.ensures c.past-whole.ensures.value c.digits_end-point.ensures.value c.past-fraction.ensures.value c.digits_end-end.ensures.value c.number-high.ensures c.number-digits.ensures c.either-some.ensures,
-  (omega (arith, end-le c), end-le c),
-)
+returns c =
+    let e : c.digits_end-end.result ≤ length c.args.text.now =
+    c.digits_end-end.ensures.lower_bound.1 (c.past-fraction.ensures.lower_bound.1 (c.digits_end-point.ensures.lower_bound.1 (c.past-whole.ensures.lower_bound.1 zero-le))) in
+    record {
+      value = mantissa_is c.args.text.now _ _ _ _ _ _ _ _ c.stands-negative.ensures c.past-whole.ensures.value c.digits_end-point.ensures.value c.past-fraction.ensures.value c.digits_end-end.ensures.value c.number-high.ensures c.number-digits.ensures c.either-some.ensures;
+      places_in_bounds = (omega arith, e);
+    }

@@ -1,8 +1,7 @@
 -- By which power is larger, which is the one that the other is taken from, and then whether the difference is at most 22. Assumes nothing.
-use Rattle.std.proofs.Common.{rules, le-leb}
+use Rattle.std.proofs.Common.{le-leb}
 use borrow.Author.Tests.{lt-leb}
 use Rattle.read_decimal.specs.Decimal.{scaled_of}
-use Rattle.read_decimal.specs.declared.Decimal.TheVariants as Decimal
 use Rattle.read_decimal.proofs.scale.scaled.Goals as goal
 
 pub returns-then-k-le22 : goal.returns-then-k-le22

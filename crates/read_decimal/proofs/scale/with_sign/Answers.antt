@@ -1,5 +1,5 @@
 -- The digits' float is the library's nearest, and the test of the sign is the definition's. Assumes nothing.
-use Rattle.std.proofs.Common.{ap, rules}
+use Rattle.std.proofs.Common.{ap}
 use lib.Ieee.{neg}
 use Rattle.read_decimal.specs.Decimal.{signed}
 use Rattle.read_decimal.proofs.scale.with_sign.Goals as goal

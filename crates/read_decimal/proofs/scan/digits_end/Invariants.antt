@@ -1,6 +1,5 @@
-use Rattle.std.proofs.Common.{◌≡◌, ◌+◌, ◌-◌, ◌≤◌, length, drop, refl, arith}
-use Rattle.read_decimal.specs.Scan.{run, digits_end}
-use Rattle.read_decimal.proofs.ScanLaws.{run_low, run_high, run_more, run_none}
+use Rattle.std.proofs.Common.{◌≡◌, ◌+◌, ◌-◌, ◌≤◌, length, drop}
+use Rattle.read_decimal.specs.Scan.{run}
 use Rattle.read_decimal.proofs.scan.digits_end.Given as goal
 
 abbrev pub invariant-loop-i : goal.invariant-loop-i

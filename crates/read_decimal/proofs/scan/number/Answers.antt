@@ -1,6 +1,6 @@
 -- The loop's invariant: the digits left continue m to what all digits make of n. A number that has reached the limit only grows. Assumes nothing.
-use Rattle.std.proofs.Common.{◌≡◌, ◌-◌, ◌≤◌, length, drop, refl, ap, ◌∙◌, arith, rules}
-use Rattle.read_decimal.specs.Scan.{value_from, capped}
+use Rattle.std.proofs.Common.{refl, ap, ◌∙◌, arith}
+use Rattle.read_decimal.specs.Scan.{capped}
 use Rattle.read_decimal.proofs.ScanLaws.{number_large, number_more, number_done, capped_small}
 use Rattle.read_decimal.proofs.scan.number.Goals as goal
 

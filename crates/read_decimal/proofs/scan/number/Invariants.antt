@@ -1,6 +1,5 @@
-use Rattle.std.proofs.Common.{◌≡◌, ◌-◌, ◌≤◌, length, drop, refl, ap, ◌∙◌, arith, rules}
-use Rattle.read_decimal.specs.Scan.{value_from, capped}
-use Rattle.read_decimal.proofs.ScanLaws.{number_large, number_more, number_done, capped_small}
+use Rattle.std.proofs.Common.{◌≡◌, ◌-◌, ◌≤◌, length, drop}
+use Rattle.read_decimal.specs.Scan.{value_from}
 use Rattle.read_decimal.proofs.scan.number.Given as goal
 
 abbrev pub invariant-loop-i : goal.invariant-loop-i

@@ -1,5 +1,4 @@
 -- Within the text its byte is compared; past the end none stands there. Assumes nothing.
-use Rattle.std.proofs.Common.{rules}
 use Rattle.read_decimal.proofs.ScanLaws.{is_here, is_past}
 use Rattle.read_decimal.proofs.scan.stands.Goals as goal
 

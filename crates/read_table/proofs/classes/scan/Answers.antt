@@ -16,7 +16,10 @@ unfolding scan_of
 returns-then-stops c =
     let a = c.args in
     let i = c.loop-i.invariant in
-    (omega (arith, i.2, count_stop a.k a.text.now c.loop-i.i c.loop-i-test.true (sym c.stops.ensures ∙ c.if-stops.true)), (i.0, i.1))
+    record {
+      value = omega (arith, i.2, count_stop a.k a.text.now c.loop-i.i c.loop-i-test.true (sym c.stops.ensures ∙ c.if-stops.true));
+      lower_bound = (i.0, i.1);
+    }
 
 pub loop-i-preserved : goal.loop-i-preserved
 loop-i-preserved c =
@@ -28,4 +31,7 @@ unfolding scan_of
 returns c =
     let a = c.args in
     let i = c.loop-i.invariant in
-    (omega (arith, i.2, count_none a.k a.text.now c.loop-i.i c.loop-i-test.false), (i.0, i.1))
+    record {
+      value = omega (arith, i.2, count_none a.k a.text.now c.loop-i.i c.loop-i-test.false);
+      lower_bound = (i.0, i.1);
+    }

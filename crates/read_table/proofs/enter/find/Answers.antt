@@ -16,7 +16,10 @@ pub returns-then-same_name : goal.returns-then-same_name
 returns-then-same_name c =
     let a = c.args in
     let p = c.loop-j-test.true in
-    (sym (find_stop a.text.now a.names.now a.n a.start a.stop c.loop-j.j p (sym c.same_name.ensures ∙ c.if-same_name.true)) ∙ c.loop-j.invariant.1, omega arith)
+    record {
+      value = sym (find_stop a.text.now a.names.now a.n a.start a.stop c.loop-j.j p (sym c.same_name.ensures ∙ c.if-same_name.true)) ∙ c.loop-j.invariant.1;
+      upper_bound = omega arith;
+    }
 
 pub loop-j-preserved : goal.loop-j-preserved
 loop-j-preserved c =
@@ -27,4 +30,7 @@ loop-j-preserved c =
 pub returns : goal.returns
 returns c =
     let a = c.args in
-    (sym (find_done a.text.now a.names.now a.n a.start a.stop c.loop-j.j c.loop-j-test.false) ∙ c.loop-j.invariant.1, omega arith)
+    record {
+      value = sym (find_done a.text.now a.names.now a.n a.start a.stop c.loop-j.j c.loop-j-test.false) ∙ c.loop-j.invariant.1;
+      upper_bound = omega arith;
+    }

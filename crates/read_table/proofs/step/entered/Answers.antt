@@ -8,14 +8,23 @@ use Rattle.read_table.proofs.step.entered.Goals as goal
 pub returns-then-c-n : goal.returns-then-c-n
 returns-then-c-n c =
     let a = c.args in
-    (c.taken.ensures.value ∙ entered_old a.text.now a.q a.row a.names.now _ c.find-c.ensures.value c.if-c-n.true, (c.taken.ensures.line_value.0, omega arith, omega arith))
+    record {
+      value = c.taken.ensures.value ∙ entered_old a.text.now a.q a.row a.names.now _ c.find-c.ensures.value c.if-c-n.true;
+      line_value = (c.taken.ensures.line_value.0, omega arith, omega arith);
+    }
 
 pub returns-then-n-names : goal.returns-then-n-names
 returns-then-n-names c =
     let a = c.args in
-    (c.taken-then-n-names.ensures.value ∙ entered_new a.text.now a.q a.row a.names.now _ c.find-c.ensures.value c.if-c-n.false c.if-n-names.true, (c.taken-then-n-names.ensures.line_value.0, omega arith, omega arith))
+    record {
+      value = c.taken-then-n-names.ensures.value ∙ entered_new a.text.now a.q a.row a.names.now _ c.find-c.ensures.value c.if-c-n.false c.if-n-names.true;
+      line_value = (c.taken-then-n-names.ensures.line_value.0, omega arith, omega arith);
+    }
 
 pub returns : goal.returns
 returns c =
     let a = c.args in
-    (c.marked.ensures.value ∙ entered_full a.text.now a.q a.row a.names.now _ c.find-c.ensures.value c.if-c-n.false c.if-n-names.false, (c.marked.ensures.line_value.0, omega arith, omega arith))
+    record {
+      value = c.marked.ensures.value ∙ entered_full a.text.now a.q a.row a.names.now _ c.find-c.ensures.value c.if-c-n.false c.if-n-names.false;
+      line_value = (c.marked.ensures.line_value.0, omega arith, omega arith);
+    }

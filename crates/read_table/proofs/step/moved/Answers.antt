@@ -15,9 +15,15 @@ read_row-row-requires c = omega (arith, c.scan-end.ensures.lower_bound.0, length
 pub settled-requires : goal.settled-requires
 settled-requires c =
     let a = c.args in
-    ((c.read_row-row.ensures.start_le_stop.0, omega (arith, length-take-le _ a.text.now c.scan-end.ensures.lower_bound.1)), (omega arith, omega arith, omega arith))
+    record {
+      start_le_stop = (c.read_row-row.ensures.start_le_stop.0, omega (arith, length-take-le _ a.text.now c.scan-end.ensures.lower_bound.1));
+      count_le_room = (omega arith, omega arith, omega arith);
+    }
 
 pub returns : goal.returns
 returns c =
     let a = c.args in
-    (c.settled.ensures.value ∙ moved_is a.text.now a.p a.room a.names.now _ _ c.scan-end.ensures.value c.read_row-row.ensures.value, c.settled.ensures.line_value)
+    record {
+      value = c.settled.ensures.value ∙ moved_is a.text.now a.p a.room a.names.now _ _ c.scan-end.ensures.value c.read_row-row.ensures.value;
+      line_value = c.settled.ensures.line_value;
+    }

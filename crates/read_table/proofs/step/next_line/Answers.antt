@@ -11,7 +11,10 @@ pub moved-m-requires : goal.moved-m-requires
 moved-m-requires c =
     let a = c.args in
     let q = c.requires in
-    (q.0, (room_holds a.p.count (length a.doses.now) (length a.grams.now) (length a.groups.now) _ c.least-room.ensures.value q.1.0 q.1.1 q.1.2, omega arith, q.1.3))
+    record {
+      at_in_bounds = q.0;
+      count_le_room = (room_holds a.p.count (length a.doses.now) (length a.grams.now) (length a.groups.now) _ c.least-room.ensures.value q.1.0 q.1.1 q.1.2, omega arith, q.1.3);
+    }
 
 pub returns : goal.returns
 returns c =

@@ -22,4 +22,4 @@ returns-in-4 c = rw c.in-4.is c.pick-in-4.ensures
 
 pub returns-in_default : goal.returns-in_default
 unfolding names_of
-returns-in_default c = let none = c.in_default.rest in rw (ne_eqb _ _ none.0.0.0.1, ne_eqb _ _ none.0.0.1, ne_eqb _ _ none.0.1, ne_eqb _ _ none.1)
+returns-in_default c = let none = c.in_default.in_default-own.rest in rw (ne_eqb _ _ none.0.0.0.1, ne_eqb _ _ none.0.0.1, ne_eqb _ _ none.0.1, ne_eqb _ _ none.1)

@@ -1,6 +1,5 @@
 -- The count's float is the library's nearest, and the rest is the definition's arithmetic.
 use Rattle.svg_axes.specs.Axes.{along_of}
-use Rattle.std.proofs.Common.{rules}
 use Rattle.svg_axes.proofs.axes.along.Goals as goal
 
 pub returns : goal.returns

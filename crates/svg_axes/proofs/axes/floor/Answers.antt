@@ -16,7 +16,7 @@ returns-then-k-x c =
     let k = c.to_int in
     sym (pick_true _ _ _ c.if-k-x.true)
     ∙ floor-is c.args.x c.to_float-k.result k.result _ k.ensures
-    (to_z-of_z {w = w64} (record { sfits = k.type-inv }))
+    (to_z-of_z {w = w64} (record { sfits = k.type_inv }))
     c.to_float-k.ensures
 
 pub returns-else-k-x : goal.returns-else-k-x
@@ -24,5 +24,5 @@ returns-else-k-x c =
     let k = c.to_int in
     sym (pick_false _ _ _ c.if-k-x.false)
     ∙ floor-is c.args.x c.to_float-k.result k.result _ k.ensures
-    (to_z-of_z {w = w64} (record { sfits = k.type-inv }))
+    (to_z-of_z {w = w64} (record { sfits = k.type_inv }))
     c.to_float-k.ensures

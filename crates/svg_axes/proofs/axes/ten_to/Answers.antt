@@ -1,8 +1,6 @@
 -- x is the product of i tens, each rounded in turn as in the definition. Assumes nothing.
-use Rattle.std.proofs.Common.{◌≡◌, ◌-◌, ◌≤◌, arith}
-use Rattle.math.specs.Loops.{iter}
+use Rattle.std.proofs.Common.{arith}
 use Rattle.math.specs.laws.Loops.{iter_none, iter_more, iter_all}
-use Rattle.math.specs.Basic.{mul, bits, one}
 use Rattle.svg_axes.specs.Axes.{ten_to}
 use Rattle.svg_axes.proofs.axes.ten_to.Goals as goal
 

@@ -1,8 +1,6 @@
-use Rattle.std.proofs.Common.{◌≡◌, ◌-◌, ◌≤◌, arith}
+use Rattle.std.proofs.Common.{◌≡◌, ◌-◌, ◌≤◌}
 use Rattle.math.specs.Loops.{iter}
-use Rattle.math.specs.laws.Loops.{iter_none, iter_more, iter_all}
 use Rattle.math.specs.Basic.{mul, bits, one}
-use Rattle.svg_axes.specs.Axes.{ten_to}
 use Rattle.svg_axes.proofs.axes.ten_to.Given as goal
 
 abbrev pub invariant-loop-i : goal.invariant-loop-i

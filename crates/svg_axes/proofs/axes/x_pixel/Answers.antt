@@ -1,6 +1,5 @@
 -- What `along` promises, in what `clamp` promises.
 use Rattle.svg_axes.specs.Axes.{x_pixel}
-use Rattle.std.proofs.Common.{rules}
 use Rattle.svg_axes.proofs.axes.x_pixel.Goals as goal
 
 pub returns : goal.returns

@@ -1,5 +1,5 @@
 -- What `clamp` and `along` promise, put together. Assumes nothing.
-use Rattle.std.proofs.Common.{ap, ◌∙◌, rules}
+use Rattle.std.proofs.Common.{ap, ◌∙◌}
 use lib.Ieee.{Float}
 use Rattle.math.specs.Basic.{sub, mul, bits}
 use Rattle.svg_axes.specs.Axes.{clamp_of, y_pixel}

@@ -1,8 +1,7 @@
 -- r is the grams' range widened by the curves of the canisters before g. Assumes nothing.
-use Rattle.std.proofs.Common.{◌≡◌, ◌-◌, ◌≤◌, length, ◌∙◌, arith}
-use Rattle.math.specs.Loops.{iter}
+use Rattle.std.proofs.Common.{◌∙◌, arith}
 use Rattle.math.specs.laws.Loops.{iter_none, iter_more, iter_all}
-use Rattle.svg_axes.specs.Ranges.{with_curve, with_curves}
+use Rattle.svg_axes.specs.Ranges.{with_curves}
 use Rattle.svg_axes.proofs.ranges.all_curves.Goals as goal
 
 pub loop-g-init : goal.loop-g-init

@@ -1,7 +1,6 @@
-use Rattle.std.proofs.Common.{◌≡◌, ◌-◌, ◌≤◌, length, ◌∙◌, arith}
+use Rattle.std.proofs.Common.{◌≡◌, ◌-◌, ◌≤◌, length}
 use Rattle.math.specs.Loops.{iter}
-use Rattle.math.specs.laws.Loops.{iter_none, iter_more, iter_all}
-use Rattle.svg_axes.specs.Ranges.{with_curve, with_curves}
+use Rattle.svg_axes.specs.Ranges.{with_curve}
 use Rattle.svg_axes.proofs.ranges.all_curves.Given as goal
 
 abbrev pub invariant-loop-g : goal.invariant-loop-g

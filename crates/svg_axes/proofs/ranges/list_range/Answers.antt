@@ -1,9 +1,8 @@
 -- r is the range of the first i numbers, from none on. Assumes nothing.
-use Rattle.std.proofs.Common.{◌≡◌, ◌-◌, ◌≤◌, length, get_or, ◌∙◌, arith}
-use lib.Ieee.{nan, neg}
-use Rattle.math.specs.Loops.{iter}
+use Rattle.std.proofs.Common.{◌∙◌, arith}
+use lib.Ieee.{neg}
 use Rattle.math.specs.laws.Loops.{iter_none, iter_more, iter_all}
-use Rattle.svg_axes.specs.Ranges.{wider_by, list_range, no_range}
+use Rattle.svg_axes.specs.Ranges.{list_range}
 use Rattle.svg_axes.proofs.ranges.list_range.Goals as goal
 
 pub loop-i-init : goal.loop-i-init

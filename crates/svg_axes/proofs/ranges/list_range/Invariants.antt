@@ -1,8 +1,7 @@
-use Rattle.std.proofs.Common.{◌≡◌, ◌-◌, ◌≤◌, length, get_or, ◌∙◌, arith}
-use lib.Ieee.{nan, neg}
+use Rattle.std.proofs.Common.{◌≡◌, ◌-◌, ◌≤◌, length, get_or}
+use lib.Ieee.{nan}
 use Rattle.math.specs.Loops.{iter}
-use Rattle.math.specs.laws.Loops.{iter_none, iter_more, iter_all}
-use Rattle.svg_axes.specs.Ranges.{wider_by, list_range, no_range}
+use Rattle.svg_axes.specs.Ranges.{wider_by, no_range}
 use Rattle.svg_axes.proofs.ranges.list_range.Given as goal
 
 abbrev pub invariant-loop-i : goal.invariant-loop-i

@@ -1,8 +1,7 @@
 -- r is the grams' range widened by the curve at the doses before j of its 61. Assumes nothing.
-use Rattle.std.proofs.Common.{◌≡◌, ◌-◌, ◌≤◌, arith}
-use Rattle.math.specs.Loops.{iter}
+use Rattle.std.proofs.Common.{arith}
 use Rattle.math.specs.laws.Loops.{iter_none, iter_more, iter_all}
-use Rattle.svg_axes.specs.Ranges.{wider_by, curve_at, sample_of, with_curve}
+use Rattle.svg_axes.specs.Ranges.{with_curve}
 use Rattle.svg_axes.proofs.ranges.one_curve.Goals as goal
 
 pub loop-j-init : goal.loop-j-init

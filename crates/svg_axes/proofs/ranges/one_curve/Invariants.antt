@@ -1,7 +1,6 @@
-use Rattle.std.proofs.Common.{◌≡◌, ◌-◌, ◌≤◌, arith}
+use Rattle.std.proofs.Common.{◌≡◌, ◌-◌, ◌≤◌}
 use Rattle.math.specs.Loops.{iter}
-use Rattle.math.specs.laws.Loops.{iter_none, iter_more, iter_all}
-use Rattle.svg_axes.specs.Ranges.{wider_by, curve_at, sample_of, with_curve}
+use Rattle.svg_axes.specs.Ranges.{wider_by, curve_at, sample_of}
 use Rattle.svg_axes.proofs.ranges.one_curve.Given as goal
 
 abbrev pub invariant-loop-j : goal.invariant-loop-j

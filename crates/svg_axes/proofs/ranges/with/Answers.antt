@@ -5,8 +5,8 @@ use Rattle.svg_axes.proofs.ranges.with.Goals as goal
 
 pub returns-then-is_finite : goal.returns-then-is_finite
 unfolding wider_by
-returns-then-is_finite c = simp (sym c.is_finite.ensures ∙ c.if-is_finite.taken, c.min.ensures, c.max.ensures)
+returns-then-is_finite c = simp (sym c.is_finite.ensures ∙ c.if-is_finite.true, c.min.ensures, c.max.ensures)
 
 pub returns : goal.returns
 unfolding wider_by
-returns c = simp (sym c.is_finite.ensures ∙ c.if-is_finite.left)
+returns c = simp (sym c.is_finite.ensures ∙ c.if-is_finite.false)

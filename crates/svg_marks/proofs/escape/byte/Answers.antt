@@ -1,7 +1,6 @@
 -- By whether a word stands for the byte: that word, or the byte alone.
 use borrow.Author.Tests.{lt-ltb, le-ltb}
 use Rattle.svg_marks.specs.Escape.{escaped_byte}
-use borrow.Author.Rules.{rules}
 use Rattle.svg_marks.proofs.escape.byte.Goals as goal
 
 pub returns-then-k-lt5 : goal.returns-then-k-lt5

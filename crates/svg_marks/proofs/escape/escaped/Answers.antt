@@ -1,12 +1,7 @@
 -- Each turn writes the next byte, from the part's begin to its end or the text's. Assumes nothing.
-use Prim.Native.Nat.{◌-◌, ◌≤◌}
-use mathlib.Core.Path.{◌≡◌, refl}
-use mathlib.Core.List.{[], ◌++◌}
+use mathlib.Core.Path.{refl}
 use native.Mathlib.Omega.{arith}
-use lib.ListN.{length, get_or}
-use Rattle.math.specs.Loops.{span}
-use Rattle.text_buffer.specs.Text.{wrote}
-use Rattle.svg_marks.specs.Escape.{escaped_byte, escaped_text}
+use Rattle.svg_marks.specs.Escape.{escaped_text}
 use Rattle.svg_marks.proofs.Laws.{part_none, part_more, part_all}
 use borrow.Author.Rules.{rules}
 use Rattle.svg_marks.proofs.escape.escaped.Goals as goal

@@ -1,13 +1,10 @@
 use Prim.Native.Nat.{◌-◌, ◌≤◌}
-use mathlib.Core.Path.{◌≡◌, refl}
+use mathlib.Core.Path.{◌≡◌}
 use mathlib.Core.List.{[], ◌++◌}
-use native.Mathlib.Omega.{arith}
 use lib.ListN.{length, get_or}
 use Rattle.math.specs.Loops.{span}
 use Rattle.text_buffer.specs.Text.{wrote}
-use Rattle.svg_marks.specs.Escape.{escaped_byte, escaped_text}
-use Rattle.svg_marks.proofs.Laws.{part_none, part_more, part_all}
-use borrow.Author.Rules.{rules}
+use Rattle.svg_marks.specs.Escape.{escaped_byte}
 use Rattle.svg_marks.proofs.escape.escaped.Given as goal
 
 abbrev pub invariant-loop-i : goal.invariant-loop-i

@@ -1,6 +1,5 @@
 -- The room holds what it can of the number's text. Assumes nothing.
 use Rattle.text_buffer.specs.laws.Text.{held}
-use borrow.Author.Rules.{rules}
 use Rattle.text_lines.proofs.columns.figure.Goals as goal
 
 pub cell-requires : goal.cell-requires

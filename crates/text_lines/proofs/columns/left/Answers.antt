@@ -2,7 +2,6 @@
 use mathlib.Core.Path.{◌∙◌}
 use Rattle.text_lines.specs.Lines.{left_text}
 use Rattle.text_buffer.specs.laws.Text.{next}
-use borrow.Author.Rules.{rules}
 use Rattle.text_lines.proofs.columns.left.Goals as goal
 
 pub returns : goal.returns

@@ -1,11 +1,7 @@
 -- What is still to be written after each space is the rest of them. Assumes nothing.
-use Prim.Native.Nat.{◌-◌}
-use mathlib.Core.Path.{◌≡◌, refl, ◌∙◌}
+use mathlib.Core.Path.{refl, ◌∙◌}
 use borrow.Author.Rules.{rules}
 use native.Mathlib.Omega.{arith}
-use lib.ListN.{length}
-use Rattle.text_buffer.specs.Text.{wrote}
-use Rattle.text_lines.specs.Lines.{spaces}
 use Rattle.text_buffer.specs.laws.Text.{byte_then, stays}
 use Rattle.text_lines.proofs.Lines.{spaces_next, spaces_none}
 use Rattle.text_lines.proofs.columns.pad.Goals as goal

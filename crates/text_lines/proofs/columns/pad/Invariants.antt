@@ -1,12 +1,8 @@
 use Prim.Native.Nat.{◌-◌}
-use mathlib.Core.Path.{◌≡◌, refl, ◌∙◌}
-use borrow.Author.Rules.{rules}
-use native.Mathlib.Omega.{arith}
+use mathlib.Core.Path.{◌≡◌}
 use lib.ListN.{length}
 use Rattle.text_buffer.specs.Text.{wrote}
 use Rattle.text_lines.specs.Lines.{spaces}
-use Rattle.text_buffer.specs.laws.Text.{byte_then, stays}
-use Rattle.text_lines.proofs.Lines.{spaces_next, spaces_none}
 use Rattle.text_lines.proofs.columns.pad.Given as goal
 
 abbrev pub invariant-loop-i : goal.invariant-loop-i

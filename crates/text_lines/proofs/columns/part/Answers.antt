@@ -1,6 +1,5 @@
 -- The two ends are cut to what the text has. Assumes nothing.
 use Rattle.text_buffer.proofs.Parts.{slice_cut}
-use borrow.Author.Rules.{rules}
 use Rattle.text_lines.proofs.columns.part.Goals as goal
 
 pub returns : goal.returns

@@ -1,11 +1,9 @@
 -- What is still to be written from here, with the numbers that are left, is the rest of the whole. Assumes nothing.
-use Prim.Native.Nat.{◌-◌, ◌≤◌}
-use mathlib.Core.Path.{◌≡◌, refl, ap, ◌∙◌}
+use mathlib.Core.Path.{refl, ap, ◌∙◌}
 use borrow.Author.Rules.{rules}
 use native.Mathlib.Omega.{arith}
-use lib.ListN.{length, drop}
+use lib.ListN.{drop}
 use Rattle.text_buffer.specs.Text.{wrote}
-use Rattle.text_lines.specs.Lines.{fill_from, filled}
 use Rattle.text_buffer.specs.laws.Text.{next, byte_then, stays}
 use Rattle.text_lines.proofs.Filling.{fill_mark, fill_percent, fill_byte, fill_past}
 use Rattle.text_lines.proofs.template.fill.Goals as goal
@@ -17,14 +15,13 @@ pub loop-i-preserved-then-marked : goal.loop-i-preserved-then-marked
 loop-i-preserved-then-marked c =
     let w = c.loop-i in
     let a = c.args in
-    let on = next _ _ _ _ _ _ c.mark-q.ensures in
     let is = fill_mark a.template.now w.i (omega arith) a.wholes.now w.j a.floats.now w.k in
     let m = c.if-marked.true in (
       search rules,
       search rules,
       search rules,
       search rules,
-      rw (c.same-j.ensures.value, c.floats_for-k.ensures.value) (on ∙ ap (wrote _ _) is ∙ (rw m at w.invariant.4)),
+      rw (c.same-j.ensures.value, c.floats_for-k.ensures.value) (next _ _ _ _ _ _ c.mark-q.ensures ∙ ap (wrote _ _) is ∙ (rw m at w.invariant.4)),
     )
 
 pub loop-i-preserved-then-c-eq37 : goal.loop-i-preserved-then-c-eq37

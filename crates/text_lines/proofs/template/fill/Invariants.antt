@@ -1,12 +1,8 @@
 use Prim.Native.Nat.{◌-◌, ◌≤◌}
-use mathlib.Core.Path.{◌≡◌, refl, ap, ◌∙◌}
-use borrow.Author.Rules.{rules}
-use native.Mathlib.Omega.{arith}
+use mathlib.Core.Path.{◌≡◌}
 use lib.ListN.{length, drop}
 use Rattle.text_buffer.specs.Text.{wrote}
 use Rattle.text_lines.specs.Lines.{fill_from, filled}
-use Rattle.text_buffer.specs.laws.Text.{next, byte_then, stays}
-use Rattle.text_lines.proofs.Filling.{fill_mark, fill_percent, fill_byte, fill_past}
 use Rattle.text_lines.proofs.template.fill.Given as goal
 
 abbrev pub invariant-loop-i : goal.invariant-loop-i

@@ -2,7 +2,6 @@
 use mathlib.Core.Path.{◌∙◌}
 use native.Mathlib.Omega.{arith}
 use Rattle.text_lines.proofs.Filling.{floats_figure, floats_other}
-use borrow.Author.Rules.{rules}
 use Rattle.text_lines.proofs.template.floats_for.Goals as goal
 
 pub returns-then-c-eq103 : goal.returns-then-c-eq103

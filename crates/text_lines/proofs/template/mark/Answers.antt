@@ -3,7 +3,6 @@ use mathlib.Core.Path.{ap, ◌∙◌}
 use Rattle.text_buffer.specs.Text.{wrote}
 use Rattle.text_buffer.specs.laws.Text.{byte_one}
 use Rattle.text_lines.proofs.Filling.{mark_whole, mark_figure, mark_fixed, mark_itself}
-use borrow.Author.Rules.{rules}
 use Rattle.text_lines.proofs.template.mark.Goals as goal
 
 pub returns-then-c-eq110 : goal.returns-then-c-eq110

@@ -5,7 +5,6 @@ use Rattle.text_buffer.specs.Text.{wrote}
 use Rattle.text_floats.specs.Floats.{figure_text}
 use Rattle.text_buffer.specs.laws.Text.{byte_one}
 use Rattle.text_lines.proofs.Filling.{next_some, next_none}
-use borrow.Author.Rules.{rules}
 use Rattle.text_lines.proofs.template.next_figure.Goals as goal
 
 pub returns-then-k-floats : goal.returns-then-k-floats

@@ -4,7 +4,6 @@ use native.Mathlib.Omega.{arith}
 use Rattle.text_buffer.specs.Text.{wrote, whole_text}
 use Rattle.text_buffer.specs.laws.Text.{byte_one}
 use Rattle.text_lines.proofs.Filling.{next_some, next_none}
-use borrow.Author.Rules.{rules}
 use Rattle.text_lines.proofs.template.next_whole.Goals as goal
 
 pub returns-then-j-wholes : goal.returns-then-j-wholes

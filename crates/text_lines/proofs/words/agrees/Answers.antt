@@ -1,6 +1,5 @@
 -- By what agreed so far, and whether the word goes on. Assumes nothing.
 use Rattle.text_lines.proofs.Numbers.{begins_at, begins_past}
-use borrow.Author.Rules.{rules}
 use Rattle.text_lines.proofs.words.agrees.Goals as goal
 
 pub returns-then-j-word : goal.returns-then-j-word

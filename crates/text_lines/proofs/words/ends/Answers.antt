@@ -1,6 +1,5 @@
 -- Where it agreed so far, nothing is left of the word exactly where its length is at most j. Assumes nothing.
 use Rattle.text_lines.proofs.Numbers.{left_over}
-use borrow.Author.Rules.{rules}
 use Rattle.text_lines.proofs.words.ends.Goals as goal
 
 pub returns-then-same : goal.returns-then-same

@@ -1,11 +1,7 @@
 -- The number that is sought from here, with what agreed so far, is the one sought from the start. Assumes nothing.
-use Prim.Native.Nat.{◌-◌, ◌≤◌}
-use mathlib.Core.Path.{◌≡◌, refl, sym, ◌∙◌}
+use mathlib.Core.Path.{refl, sym, ◌∙◌}
 use native.Mathlib.Omega.{arith}
-use lib.ListN.{length, drop}
-use Rattle.text_lines.specs.Lines.{number_from, number_of}
 use Rattle.text_lines.proofs.Numbers.{number_on, number_found, number_again, number_past}
-use borrow.Author.Rules.{rules}
 use Rattle.text_lines.proofs.words.number_of.Goals as goal
 
 pub loop-i-init : goal.loop-i-init

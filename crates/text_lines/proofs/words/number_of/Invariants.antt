@@ -1,10 +1,7 @@
 use Prim.Native.Nat.{◌-◌, ◌≤◌}
-use mathlib.Core.Path.{◌≡◌, refl, sym, ◌∙◌}
-use native.Mathlib.Omega.{arith}
+use mathlib.Core.Path.{◌≡◌}
 use lib.ListN.{length, drop}
 use Rattle.text_lines.specs.Lines.{number_from, number_of}
-use Rattle.text_lines.proofs.Numbers.{number_on, number_found, number_again, number_past}
-use borrow.Author.Rules.{rules}
 use Rattle.text_lines.proofs.words.number_of.Given as goal
 
 abbrev pub invariant-loop-i : goal.invariant-loop-i

@@ -1,6 +1,5 @@
 -- Only a byte from `A` to `Z` changes, and 32 more still fits a byte. Assumes nothing.
 use Rattle.text_lines.proofs.Numbers.{small_below, small_above, small_capital}
-use borrow.Author.Rules.{rules}
 use Rattle.text_lines.proofs.words.small.Goals as goal
 
 pub returns-then-b-lt65 : goal.returns-then-b-lt65

@@ -1,11 +1,7 @@
 -- What is still to be written from here is the rest of the word. Assumes nothing.
-use Prim.Native.Nat.{◌-◌, ◌≤◌}
-use mathlib.Core.Path.{◌≡◌, refl, ◌∙◌}
+use mathlib.Core.Path.{refl, ◌∙◌}
 use borrow.Author.Rules.{rules}
 use native.Mathlib.Omega.{arith}
-use lib.ListN.{length, drop}
-use Rattle.text_buffer.specs.Text.{wrote}
-use Rattle.text_lines.specs.Lines.{word_of}
 use Rattle.text_buffer.specs.laws.Text.{byte_then, stays}
 use Rattle.text_lines.proofs.Lines.{word_end, word_byte, word_past}
 use Rattle.text_lines.proofs.words.word.Goals as goal

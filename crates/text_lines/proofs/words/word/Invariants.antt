@@ -1,12 +1,8 @@
 use Prim.Native.Nat.{◌-◌, ◌≤◌}
-use mathlib.Core.Path.{◌≡◌, refl, ◌∙◌}
-use borrow.Author.Rules.{rules}
-use native.Mathlib.Omega.{arith}
+use mathlib.Core.Path.{◌≡◌}
 use lib.ListN.{length, drop}
 use Rattle.text_buffer.specs.Text.{wrote}
 use Rattle.text_lines.specs.Lines.{word_of}
-use Rattle.text_buffer.specs.laws.Text.{byte_then, stays}
-use Rattle.text_lines.proofs.Lines.{word_end, word_byte, word_past}
 use Rattle.text_lines.proofs.words.word.Given as goal
 
 abbrev pub invariant-loop-i : goal.invariant-loop-i

@@ -1,10 +1,7 @@
 -- The word that is sought from here is the one sought from the start. Assumes nothing.
-use Prim.Native.Nat.{◌-◌, ◌≤◌}
-use mathlib.Core.Path.{◌≡◌, refl, sym, ◌∙◌}
+use mathlib.Core.Path.{refl, sym, ◌∙◌}
 use borrow.Author.Rules.{rules}
 use native.Mathlib.Omega.{arith}
-use lib.ListN.{length, drop}
-use Rattle.text_lines.specs.Lines.{word_of}
 use Rattle.text_lines.proofs.Lines.{word_next, word_past}
 use Rattle.text_lines.proofs.words.word_at.Goals as goal
 
@@ -14,7 +11,10 @@ loop-i-init c = (omega arith, refl)
 pub returns-then-left-eq0 : goal.returns-then-left-eq0
 returns-then-left-eq0 c =
     let w = c.loop-i in
-    (sym (rw c.if-left-eq0.true at w.invariant.1), w.invariant.0)
+    record {
+      table_value = sym (rw c.if-left-eq0.true at w.invariant.1);
+      upper_bound = w.invariant.0;
+    }
 
 pub loop-i-preserved : goal.loop-i-preserved
 loop-i-preserved c =
@@ -26,4 +26,7 @@ pub returns : goal.returns
 returns c =
     let w = c.loop-i in
     let a = c.args in
-    (sym w.invariant.1 ∙ word_past w.left w.i a.table.now (omega arith) ∙ sym (word_past 0 w.i a.table.now (omega arith)), w.invariant.0)
+    record {
+      table_value = sym w.invariant.1 ∙ word_past w.left w.i a.table.now (omega arith) ∙ sym (word_past 0 w.i a.table.now (omega arith));
+      upper_bound = w.invariant.0;
+    }

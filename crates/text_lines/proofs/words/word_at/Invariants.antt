@@ -1,10 +1,7 @@
 use Prim.Native.Nat.{◌-◌, ◌≤◌}
-use mathlib.Core.Path.{◌≡◌, refl, sym, ◌∙◌}
-use borrow.Author.Rules.{rules}
-use native.Mathlib.Omega.{arith}
+use mathlib.Core.Path.{◌≡◌}
 use lib.ListN.{length, drop}
 use Rattle.text_lines.specs.Lines.{word_of}
-use Rattle.text_lines.proofs.Lines.{word_next, word_past}
 use Rattle.text_lines.proofs.words.word_at.Given as goal
 
 abbrev pub invariant-loop-i : goal.invariant-loop-i
