@@ -9,9 +9,7 @@ use Rattle.replay_cases.specs.declared.cursor.NextWord.{NextWord}
 use Rattle.replay_cases.specs.declared.cursor.NextWhole.{NextWhole}
 use Rattle.replay_cases.specs.declared.cursor.NextFloat.{NextFloat}
 use Rattle.replay_cases.specs.declared.digits.Number.{Number}
-use Rattle.replay_cases.specs.declared.digits.Number.TheVariants as Number
 use Rattle.replay_cases.specs.declared.digits.Real.{Real}
-use Rattle.replay_cases.specs.declared.digits.Real.TheVariants as Real
 
 -- the place after a fault
 abbrev pub fault : Cursor
