@@ -1,7 +1,6 @@
 -- The curve, the readings and the row of the legend are one text, in that order.
 use Rattle.svg_picture.specs.Picture.{canister_text}
 use Rattle.svg_marks.proofs.Laws.{then}
-use Rattle.std.proofs.Common.{rules}
 use Rattle.svg_picture.proofs.canister.Goals as goal
 
 pub returns : goal.returns

@@ -1,8 +1,7 @@
-use Rattle.std.proofs.Common.{◌≡◌, ◌-◌, ◌≤◌, length, refl, arith, rules}
+use Rattle.std.proofs.Common.{◌≡◌, ◌-◌, ◌≤◌, length}
 use Rattle.text_buffer.specs.Text.{wrote}
 use Rattle.svg_marks.specs.Escape.{each}
 use Rattle.svg_picture.specs.Picture.{canister_text}
-use Rattle.svg_marks.proofs.Laws.{each_none, each_more, each_all}
 use Rattle.svg_picture.proofs.canisters.Given as goal
 
 abbrev pub invariant-loop-g : goal.invariant-loop-g

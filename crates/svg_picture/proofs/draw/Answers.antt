@@ -1,5 +1,5 @@
 -- By whether there is an axis for the doses and one for the grams. Assumes nothing.
-use Rattle.std.proofs.Common.{rules, eq-eqb, ne_eqb}
+use Rattle.std.proofs.Common.{eq-eqb, ne_eqb}
 use Rattle.svg_picture.specs.Picture.{picture_text}
 use Rattle.svg_marks.proofs.Laws.{nothing}
 use Rattle.svg_picture.proofs.draw.Goals as goal

@@ -1,7 +1,6 @@
 -- What opens the picture, the frame, the canisters and what closes it are one text, from the buffer's start on. Assumes nothing.
 use Rattle.svg_picture.specs.Picture.{drawn_text}
 use Rattle.svg_marks.proofs.Laws.{then}
-use Rattle.std.proofs.Common.{rules}
 use Rattle.svg_picture.proofs.drawn.Goals as goal
 
 pub returns : goal.returns

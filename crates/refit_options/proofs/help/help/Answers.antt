@@ -1,7 +1,6 @@
 -- The help's four parts, one after the other, are one text. Assumes nothing.
 use Rattle.text_buffer.specs.laws.Text.{then}
 use Rattle.refit_options.specs.Help.{help_text}
-use borrow.Author.Rules.{rules}
 use Rattle.refit_options.proofs.help.help.Goals as goal
 
 pub returns : goal.returns

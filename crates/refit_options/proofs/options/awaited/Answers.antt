@@ -1,7 +1,6 @@
 -- By the option that awaits the word. Assumes nothing.
 use borrow.Author.Tests.{eq-eqb, ne_eqb, lt-ltb, le-ltb}
 use Rattle.refit_options.specs.Options.{awaited_of}
-use borrow.Author.Rules.{rules}
 use Rattle.refit_options.proofs.options.awaited.Goals as goal
 
 pub returns-then-o-eq0 : goal.returns-then-o-eq0

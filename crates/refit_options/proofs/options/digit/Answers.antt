@@ -2,7 +2,6 @@
 use native.Mathlib.Omega.{arith}
 use borrow.Author.Tests.{lt-ltb, le-ltb}
 use Rattle.refit_options.specs.Options.{digit_of}
-use borrow.Author.Rules.{rules}
 use Rattle.refit_options.proofs.options.digit.Goals as goal
 
 pub returns-then-b-lt48 : goal.returns-then-b-lt48

@@ -6,7 +6,6 @@ use lib.ListN.{length}
 use borrow.Author.Tests.{lt-ltb, le-ltb}
 use Rattle.refit_options.proofs.Laws.{to_the_end}
 use Rattle.refit_options.specs.Options.{ends_in_svg}
-use borrow.Author.Rules.{rules}
 use Rattle.refit_options.proofs.options.ends_in_svg.Goals as goal
 
 pub returns-then-n-lt5 : goal.returns-then-n-lt5

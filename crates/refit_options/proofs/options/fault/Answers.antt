@@ -1,6 +1,5 @@
 -- `word` promises that line of the table of faults. Assumes nothing.
 use Rattle.refit_options.specs.Options.{option_fault}
-use borrow.Author.Rules.{rules}
 use Rattle.refit_options.proofs.options.fault.Goals as goal
 
 pub returns : goal.returns

@@ -1,7 +1,6 @@
 -- By the word, and whether there is a file. Assumes nothing.
 use borrow.Author.Tests.{eq-eqb, ne_eqb}
 use Rattle.refit_options.specs.Options.{file_of}
-use borrow.Author.Rules.{rules}
 use Rattle.refit_options.proofs.options.file.Goals as goal
 
 pub returns-then-word-eq0 : goal.returns-then-word-eq0

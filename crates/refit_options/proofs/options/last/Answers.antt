@@ -1,7 +1,6 @@
 -- By the fault, what is awaited, and the effect. Assumes nothing.
 use borrow.Author.Tests.{eq-eqb, ne_eqb, lt-ltb, le-ltb}
 use Rattle.refit_options.specs.Options.{last_of}
-use borrow.Author.Rules.{rules}
 use Rattle.refit_options.proofs.options.last.Goals as goal
 
 pub returns-then-o-ne0 : goal.returns-then-o-ne0

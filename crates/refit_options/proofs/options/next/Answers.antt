@@ -1,7 +1,6 @@
 -- By the fault, what is awaited, and whether the option was said before. Assumes nothing.
 use borrow.Author.Tests.{eq-eqb, ne_eqb}
 use Rattle.refit_options.specs.Options.{next_of}
-use borrow.Author.Rules.{rules}
 use Rattle.refit_options.proofs.options.next.Goals as goal
 
 pub returns-then-o-ne0 : goal.returns-then-o-ne0

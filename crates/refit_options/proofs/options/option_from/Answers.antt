@@ -1,7 +1,6 @@
 -- The options' numbers fall into five ranges, tested in rising order as in the definition. Assumes nothing.
 use borrow.Author.Tests.{eq-eqb, ne_eqb, lt-ltb, le-ltb}
 use Rattle.refit_options.specs.Options.{option_from}
-use borrow.Author.Rules.{rules}
 use Rattle.refit_options.proofs.options.option_from.Goals as goal
 
 pub returns-then-option-eq0 : goal.returns-then-option-eq0

@@ -1,6 +1,5 @@
 -- Slot 0 is never said, by the definition's conjunction; any other is looked up below 8. Assumes nothing.
 use borrow.Author.Tests.{eq-eqb, ne_eqb}
-use borrow.Author.Rules.{rules}
 use Rattle.refit_options.proofs.options.said.Goals as goal
 
 pub returns-then-s-eq0 : goal.returns-then-s-eq0

@@ -1,7 +1,6 @@
 -- By the word's length: one digit, two of which each is at most 100 so that the sum fits, or no number. Assumes nothing.
 use borrow.Author.Tests.{eq-eqb, ne_eqb}
 use Rattle.refit_options.specs.Options.{small_of}
-use borrow.Author.Rules.{rules}
 use Rattle.refit_options.proofs.options.small.Goals as goal
 
 pub returns-then-word-eq1 : goal.returns-then-word-eq1

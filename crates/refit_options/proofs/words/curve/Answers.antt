@@ -1,6 +1,5 @@
 -- `word` promises that line of the table of curves. Assumes nothing.
 use Rattle.refit_options.specs.Words.{curve_text}
-use borrow.Author.Rules.{rules}
 use Rattle.refit_options.proofs.words.curve.Goals as goal
 
 pub returns : goal.returns

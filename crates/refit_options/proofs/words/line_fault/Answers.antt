@@ -2,7 +2,6 @@
 use borrow.Author.Tests.{eq-eqb, ne_eqb}
 use Rattle.text_buffer.specs.laws.Text.{then}
 use Rattle.refit_options.specs.Words.{line_fault_text}
-use borrow.Author.Rules.{rules}
 use Rattle.refit_options.proofs.words.line_fault.Goals as goal
 
 pub returns-then-line-eq0 : goal.returns-then-line-eq0

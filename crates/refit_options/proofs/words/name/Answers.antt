@@ -1,6 +1,5 @@
 -- The word of the name's number. Assumes nothing.
 use Rattle.refit_options.specs.Words.{name_text}
-use borrow.Author.Rules.{rules}
 use Rattle.refit_options.proofs.words.name.Goals as goal
 
 pub returns : goal.returns

@@ -19,4 +19,6 @@ pub returns-in-3 : goal.returns-in-3
 returns-in-3 c = rw c.in-3.is
 
 pub returns-in_default : goal.returns-in_default
-returns-in_default c = let far = c.in_default.in_default-own.rest in let past : 4 ≤ c.args.i = omega (arith, far.1, far.0.1, far.0.0.1, far.0.0.0.1) in sym (get_or-eq_default (c.args.a ∷ c.args.b ∷ c.args.c ∷ c.args.d ∷ []) 0 {n = c.args.i} past)
+returns-in_default c =
+    let past : 4 ≤ c.args.i = omega arith in
+    sym (get_or-eq_default (c.args.a ∷ c.args.b ∷ c.args.c ∷ c.args.d ∷ []) 0 {n = c.args.i} past)

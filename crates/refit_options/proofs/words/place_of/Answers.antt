@@ -1,7 +1,6 @@
 -- By the first name that is the same. Assumes nothing.
 use borrow.Author.Tests.{eq-eqb, ne_eqb}
 use Rattle.refit_options.specs.Words.{place_of}
-use borrow.Author.Rules.{rules}
 use Rattle.refit_options.proofs.words.place_of.Goals as goal
 
 pub returns-then-value_name-number : goal.returns-then-value_name-number

@@ -1,6 +1,5 @@
 -- `word` promises that line of the table of refusals. Assumes nothing.
 use Rattle.refit_options.specs.Words.{refusal_text}
-use borrow.Author.Rules.{rules}
 use Rattle.refit_options.proofs.words.refusal.Goals as goal
 
 pub returns : goal.returns

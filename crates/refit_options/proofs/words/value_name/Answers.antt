@@ -1,7 +1,7 @@
 -- Each of the four codes has its own arm, with that curve's names; any other fails all four tests. Assumes nothing.
+use Rattle.std.proofs.Common.{arith}
 use borrow.Author.Tests.{ne_eqb}
 use Rattle.refit_options.specs.Words.{names_of}
-use borrow.Author.Rules.{rules}
 use Rattle.refit_options.proofs.words.value_name.Goals as goal
 
 pub returns-in-1 : goal.returns-in-1
@@ -22,4 +22,6 @@ returns-in-4 c = rw c.in-4.is c.pick-in-4.ensures
 
 pub returns-in_default : goal.returns-in_default
 unfolding names_of
-returns-in_default c = let none = c.in_default.in_default-own.rest in rw (ne_eqb _ _ none.0.0.0.1, ne_eqb _ _ none.0.0.1, ne_eqb _ _ none.0.1, ne_eqb _ _ none.1)
+returns-in_default c =
+    let k = c.args.code in
+    rw (ne_eqb k 1 (omega arith), ne_eqb k 2 (omega arith), ne_eqb k 3 (omega arith), ne_eqb k 4 (omega arith))

@@ -1,7 +1,6 @@
 -- The ticks across with their line, and the ticks up with theirs, are one text.
 use Rattle.svg_picture.specs.Frame.{axes_text}
 use Rattle.svg_marks.proofs.Laws.{then}
-use Rattle.std.proofs.Common.{rules}
 use Rattle.svg_picture.proofs.frame.axes.Goals as goal
 
 pub returns : goal.returns

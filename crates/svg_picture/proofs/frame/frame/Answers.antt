@@ -1,7 +1,6 @@
 -- The title, the axes and the labels are one text. Assumes nothing.
 use Rattle.svg_picture.specs.Frame.{frame_text}
 use Rattle.svg_marks.proofs.Laws.{then}
-use Rattle.std.proofs.Common.{rules}
 use Rattle.svg_picture.proofs.frame.frame.Goals as goal
 
 pub returns : goal.returns

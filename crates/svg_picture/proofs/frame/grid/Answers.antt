@@ -1,7 +1,6 @@
 -- By the direction: one pixel is worked out, and two texts with it are one.
 use Rattle.svg_picture.specs.Frame.{grid_text}
 use Rattle.svg_marks.proofs.Laws.{then}
-use Rattle.std.proofs.Common.{rules}
 use Rattle.svg_picture.proofs.frame.grid.Goals as goal
 
 pub returns-then-across : goal.returns-then-across

@@ -1,6 +1,5 @@
 -- By whether it is the example: the note follows the label, or nothing does.
 use Rattle.svg_marks.proofs.Laws.{then, nothing}
-use Rattle.std.proofs.Common.{rules}
 use Rattle.svg_picture.proofs.frame.labelled.Goals as goal
 
 pub returns-then-example : goal.returns-then-example

@@ -1,7 +1,6 @@
 -- Three labels, each closing the one before, and the last close are one text.
 use Rattle.svg_picture.specs.Frame.{labels_text}
 use Rattle.svg_marks.proofs.Laws.{then}
-use Rattle.std.proofs.Common.{rules}
 use Rattle.svg_picture.proofs.frame.labels.Goals as goal
 
 pub returns : goal.returns

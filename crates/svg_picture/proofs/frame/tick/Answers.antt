@@ -1,7 +1,6 @@
 -- The tick's value is the definition's; the grid line, the label's start, its number and its end are one text.
 use Rattle.svg_picture.specs.Frame.{tick_at, tick_text}
 use Rattle.svg_marks.proofs.Laws.{then}
-use Rattle.std.proofs.Common.{rules}
 use Rattle.svg_picture.proofs.frame.tick.Goals as goal
 
 pub returns : goal.returns

@@ -1,8 +1,6 @@
 -- Each turn writes the next tick, and the last comes after. Assumes nothing.
-use Rattle.std.proofs.Common.{◌≡◌, ◌-◌, ◌≤◌, length, refl, arith, rules}
-use Rattle.text_buffer.specs.Text.{wrote}
-use Rattle.svg_marks.specs.Escape.{each}
-use Rattle.svg_picture.specs.Frame.{tick_text, ticks_text}
+use Rattle.std.proofs.Common.{refl, arith, rules}
+use Rattle.svg_picture.specs.Frame.{ticks_text}
 use Rattle.svg_marks.proofs.Laws.{each_none, each_more, each_all}
 use Rattle.svg_picture.proofs.frame.ticks.Goals as goal
 

@@ -1,7 +1,6 @@
 -- The curve's name, the warning's words and what stands around them are one text. Assumes nothing.
 use Rattle.svg_picture.specs.Frame.{title_text}
 use Rattle.svg_marks.proofs.Laws.{then}
-use Rattle.std.proofs.Common.{rules}
 use Rattle.svg_picture.proofs.frame.title.Goals as goal
 
 pub returns : goal.returns

@@ -1,7 +1,6 @@
 -- The piece of line, the colour, the mark's place and its shape are one text.
 use Rattle.svg_series.specs.Canister.{key_text}
 use Rattle.svg_marks.proofs.Laws.{then}
-use Rattle.std.proofs.Common.{rules}
 use Rattle.svg_series.proofs.legend.key.Goals as goal
 
 pub returns : goal.returns

@@ -1,7 +1,6 @@
 -- The label's place, the name and what stands around it are one text.
 use Rattle.svg_series.specs.Canister.{label_text}
 use Rattle.svg_marks.proofs.Laws.{then}
-use Rattle.std.proofs.Common.{rules}
 use Rattle.svg_series.proofs.legend.label.Goals as goal
 
 pub returns : goal.returns

@@ -1,7 +1,6 @@
 -- The row's height is the callee's, and the key and then the label are one text.
 use Rattle.svg_series.specs.Canister.{legend_text}
 use Rattle.svg_marks.proofs.Laws.{then}
-use Rattle.std.proofs.Common.{rules}
 use Rattle.svg_series.proofs.legend.legend.Goals as goal
 
 pub returns : goal.returns

@@ -1,7 +1,6 @@
 -- What opens the line, its colour, its height and what closes it are one text.
 use Rattle.svg_series.specs.Canister.{line_text}
 use Rattle.svg_marks.proofs.Laws.{then}
-use Rattle.std.proofs.Common.{rules}
 use Rattle.svg_series.proofs.legend.line.Goals as goal
 
 pub returns : goal.returns

@@ -1,5 +1,5 @@
 -- By whether g is below 32: then 2 * g + 1 fits, and the name's two ends are the definition's.
-use Rattle.std.proofs.Common.{rules, le-ltb, lt-ltb}
+use Rattle.std.proofs.Common.{le-ltb, lt-ltb}
 use Rattle.svg_series.specs.Canister.{name_text}
 use Rattle.svg_series.proofs.legend.name.Goals as goal
 

@@ -1,5 +1,5 @@
 -- Past the end of the list both the code and the definition have 0.
-use Rattle.std.proofs.Common.{sym, rules}
+use Rattle.std.proofs.Common.{sym}
 use lib.ListN.{get_or-eq_default}
 use Rattle.svg_series.proofs.legend.name_end.Goals as goal
 

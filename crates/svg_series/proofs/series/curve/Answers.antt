@@ -1,7 +1,6 @@
 -- What opens the line, its colour, what opens its points and the points are one text.
 use Rattle.svg_series.specs.Canister.{curve_text}
 use Rattle.svg_marks.proofs.Laws.{then}
-use Rattle.std.proofs.Common.{rules}
 use Rattle.svg_series.proofs.series.curve.Goals as goal
 
 pub returns : goal.returns

@@ -1,24 +1,15 @@
 -- Each turn writes the mark of the next reading, if it has one. Assumes nothing.
-use Rattle.std.proofs.Common.{◌≡◌, ◌-◌, ◌≤◌, length, get_or, refl, arith, rules}
-use Rattle.text_buffer.specs.Text.{wrote}
-use Rattle.svg_marks.specs.Escape.{each}
-use lib.Ieee.{nan}
-use Rattle.svg_series.specs.Canister.{reading_text, marks_text}
+use Rattle.std.proofs.Common.{refl, arith, rules}
+use Rattle.svg_series.specs.Canister.{marks_text}
 use Rattle.svg_marks.proofs.Laws.{each_none, each_more, each_all}
 use Rattle.svg_series.proofs.series.marks.Goals as goal
-
-)
 
 pub loop-i-init : goal.loop-i-init
 loop-i-init c = (omega arith, refl, each_none _ _ _)
 
 pub loop-i-preserved : goal.loop-i-preserved
 loop-i-preserved c =
-    (
-  omega arith,
-  search rules,
-  each_more _ _ _ _ _ _ _ _ c.loop-i.invariant.2
-      (rw (c.at.ensures, c.at-in-loop-i.ensures) at c.reading-p.ensures),
+    (omega arith, search rules, each_more _ _ _ _ _ _ _ _ c.loop-i.invariant.2 (rw (c.at.ensures, c.at-in-loop-i.ensures) at c.reading-p.ensures))
 
 pub returns : goal.returns
 unfolding marks_text

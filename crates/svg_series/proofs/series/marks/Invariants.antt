@@ -1,9 +1,8 @@
-use Rattle.std.proofs.Common.{◌≡◌, ◌-◌, ◌≤◌, length, get_or, refl, arith, rules}
+use Rattle.std.proofs.Common.{◌≡◌, ◌-◌, ◌≤◌, length, get_or}
 use Rattle.text_buffer.specs.Text.{wrote}
 use Rattle.svg_marks.specs.Escape.{each}
 use lib.Ieee.{nan}
-use Rattle.svg_series.specs.Canister.{reading_text, marks_text}
-use Rattle.svg_marks.proofs.Laws.{each_none, each_more, each_all}
+use Rattle.svg_series.specs.Canister.{reading_text}
 use Rattle.svg_series.proofs.series.marks.Given as goal
 
 abbrev pub invariant-loop-i : goal.invariant-loop-i

@@ -1,7 +1,6 @@
 -- The two pixels are the callees', and the numbers of both, one after the other, are one text.
 use Rattle.svg_series.specs.Canister.{point_text}
 use Rattle.svg_marks.proofs.Laws.{then}
-use Rattle.std.proofs.Common.{rules}
 use Rattle.svg_series.proofs.series.point.Goals as goal
 
 pub returns : goal.returns

@@ -1,5 +1,5 @@
 -- By whether the reading is the canister's: its place and its shape are one text, and else nothing is written.
-use Rattle.std.proofs.Common.{rules, eq-eqb, ne_eqb}
+use Rattle.std.proofs.Common.{eq-eqb, ne_eqb}
 use Rattle.svg_series.specs.Canister.{reading_text}
 use Rattle.svg_marks.proofs.Laws.{then, nothing}
 use Rattle.svg_series.proofs.series.reading.Goals as goal

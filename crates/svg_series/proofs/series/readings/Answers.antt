@@ -1,7 +1,6 @@
 -- What opens the group, its colour, what closes its tag and the marks are one text.
 use Rattle.svg_series.specs.Canister.{readings_text}
 use Rattle.svg_marks.proofs.Laws.{then}
-use Rattle.std.proofs.Common.{rules}
 use Rattle.svg_series.proofs.series.readings.Goals as goal
 
 pub returns : goal.returns

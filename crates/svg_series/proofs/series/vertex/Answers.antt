@@ -1,5 +1,5 @@
 -- By whether the curve is finite at the dose: a point, or nothing.
-use Rattle.std.proofs.Common.{sym, ◌∙◌, rules}
+use Rattle.std.proofs.Common.{sym, ◌∙◌}
 use Rattle.svg_series.specs.Canister.{vertex_text}
 use Rattle.svg_marks.proofs.Laws.{nothing}
 use Rattle.svg_series.proofs.series.vertex.Goals as goal

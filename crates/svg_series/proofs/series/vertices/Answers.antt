@@ -1,8 +1,5 @@
 -- Each turn writes the next point. Assumes nothing.
-use Rattle.std.proofs.Common.{◌≡◌, ◌-◌, ◌≤◌, length, refl, arith, rules}
-use Rattle.text_buffer.specs.Text.{wrote}
-use Rattle.svg_marks.specs.Escape.{each}
-use Rattle.svg_series.specs.Canister.{vertex_text}
+use Rattle.std.proofs.Common.{refl, arith, rules}
 use Rattle.svg_marks.proofs.Laws.{each_none, each_more, each_all}
 use Rattle.svg_series.proofs.series.vertices.Goals as goal
 

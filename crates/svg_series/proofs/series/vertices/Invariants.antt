@@ -1,8 +1,7 @@
-use Rattle.std.proofs.Common.{◌≡◌, ◌-◌, ◌≤◌, length, refl, arith, rules}
+use Rattle.std.proofs.Common.{◌≡◌, ◌-◌, ◌≤◌, length}
 use Rattle.text_buffer.specs.Text.{wrote}
 use Rattle.svg_marks.specs.Escape.{each}
 use Rattle.svg_series.specs.Canister.{vertex_text}
-use Rattle.svg_marks.proofs.Laws.{each_none, each_more, each_all}
 use Rattle.svg_series.proofs.series.vertices.Given as goal
 
 abbrev pub invariant-loop-j : goal.invariant-loop-j
