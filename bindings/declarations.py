@@ -31,7 +31,7 @@ def declared(text):
 
 def exported(text):
     found = {}
-    pattern = r'#\[no_mangle\]\npub extern "C" fn (\w+)\(([^)]*)\) -> (\w+)'
+    pattern = r'#\[unsafe\(no_mangle\)\]\npub extern "C" fn (\w+)\(([^)]*)\) -> (\w+)'
     for name, arguments, result in re.findall(pattern, text):
         types = [a.split(":", 1)[1].strip() for a in arguments.split(",") if a.strip()]
         found[name] = C_TYPES[result] + [c for t in types for c in C_TYPES[t]]
@@ -41,7 +41,7 @@ def exported(text):
 def main():
     header, library = (open(path, encoding="utf-8").read() for path in sys.argv[1:3])
     in_header, in_library = declared(header), exported(library)
-    if len(in_library) != library.count("#[no_mangle]"):
+    if not len(in_library) == library.count("no_mangle") == library.count('extern "C" fn'):
         sys.exit("declarations: an exported function was not read")
     wrong = [n for n in sorted({*in_header, *in_library}) if in_header.get(n) != in_library.get(n)]
     for name in wrong:

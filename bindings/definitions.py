@@ -10,7 +10,7 @@ import re
 import sys
 
 SIGNATURE = re.compile(r"^( *)((?:(?:abbrev|unfoldable|pub) )*)([^\s=]+(?: [^\s=]+)*?)(?: \{[^}]*\})? : (.*)$")
-PROOF = re.compile(r" (?:≡|≤|<) |⊥|^T |^Unit ")
+PROOF = re.compile(r" (?:≡|≤|<) |^◌[≡≤<]◌ |⊥|^T |^Unit ")
 
 
 def result(kind):

@@ -1,6 +1,6 @@
 """Whether the documents that name edits and files are up to date. Of docs/PROMISES.md: each line that it shows stands in the sources, and each function
-of the header has a section. Of it, of docs/WRONG_PROGRAMS.md and of docs/ARCHITECTURE.md: each edit and each file of a crate that they name exists, and
-the map has every crate.
+of the header has a section. Of README.md and of each document of docs/: each edit and each file that it names exists. Of docs/ARCHITECTURE.md: the map
+has every crate.
 
     promises.py ROOT
 """
@@ -22,7 +22,7 @@ SHOWN = [
     "svg_picture/src/lib.rt",
     "text_floats/src/lib.rt",
 ]
-DOCUMENTS = ["PROMISES", "WRONG_PROGRAMS", "ARCHITECTURE"]
+FOLDERS = "bench|bindings|crates|docs|examples|include|oracle|tools|vectors"
 
 
 def plain(text):
@@ -44,19 +44,25 @@ def main():
     root = pathlib.Path(sys.argv[1])
     crates = {path.parent.parent.name for path in root.glob("crates/*/src/*.rt")}
     edits = {f"{path.parent.parent.name}/{path.stem}" for path in root.glob("crates/*/must-fail/*.edit")}
-    texts = {name: (root / f"docs/{name}.md").read_text(encoding="utf-8") for name in DOCUMENTS}
+    paths = [root / "README.md", *sorted(root.glob("docs/*.md"))]
+    texts = {path.relative_to(root).as_posix(): path.read_text(encoding="utf-8") for path in paths}
 
-    lines, faults = promised(root, texts["PROMISES"])
-    wrong = [("PROMISES", what) for what in faults]
-    wrong += [("ARCHITECTURE", f"no crate {name}") for name in sorted(crates) if f"`{name}`" not in texts["ARCHITECTURE"]]
+    lines, faults = promised(root, texts["docs/PROMISES.md"])
+    wrong = [("docs/PROMISES.md", what) for what in faults]
+    architecture = "docs/ARCHITECTURE.md"
+    wrong += [(architecture, f"no crate {name}") for name in sorted(crates) if f"`{name}`" not in texts[architecture]]
     either = "|".join(sorted(crates))
     for name, text in texts.items():
         named = re.findall(rf"(?<![\w/])((?:{either})/\w+)(?![\w/.])", text)
         wrong += [(name, edit) for edit in sorted(set(named) - edits) if not (root / "crates" / edit).is_dir()]
         files = re.findall(rf"(?<![\w])((?:{either})/(?:src|specs|proofs)/[\w/]+\.(?:rt|antt))", text)
         wrong += [(name, file) for file in sorted(set(files)) if not (root / "crates" / file).is_file()]
+        # What a command makes stands in out/; NAME and F stand for any name.
+        others = re.findall(rf"(?<![\w./])((?:{FOLDERS})/[\w./-]*\w)(?![\w*])", text)
+        others = [other for other in others if not re.search(r"/out/|\bNAME\b|\bF\b", other)]
+        wrong += [(name, other) for other in sorted(set(others)) if not (root / other).exists()]
     for name, what in wrong:
-        print(f"docs/{name}.md: not up to date: {what}")
+        print(f"{name}: not up to date: {what}")
     if wrong:
         sys.exit(1)
     print(f"docs: {lines} promised lines as in the sources, {len(edits)} edits, {len(crates)} crates")

@@ -24,8 +24,11 @@ def comment(edit):
 
 def table(root):
     """The lines below the heading."""
-    crates = re.findall(r"^(\w+):", (root / "crates.txt").read_text(encoding="utf-8"), flags=re.M)
+    crates = re.findall(r"^(\w+)[^:#\n]*:", (root / "crates.txt").read_text(encoding="utf-8"), flags=re.M)
     edits = [edit for crate in crates for edit in sorted((root / "crates" / crate).glob("must-fail/*.edit"))]
+    missing = set(root.glob("crates/*/must-fail/*.edit")) - set(edits)
+    if missing:
+        sys.exit(f"{min(missing)}: crates.txt has no such crate")
     return HEAD + [f"| {edit.parts[-3]}/{edit.stem} | {comment(edit)} |" for edit in edits]
 
 

@@ -1,5 +1,5 @@
 -- Where there is a direction it is as long as it should be, and each of its components is finite and a binary64 number: the components
--- are quotients and differences, and `directionOf` itself tests that they are finite. Assumes nothing.
+-- are quotients and differences, and `direction_of` itself tests that they are finite. Assumes nothing.
 use mathlib.Core.Path.{◌≡◌, refl, sym, ap, ◌∙◌, subst}
 use mathlib.Core.Bool.{Bool, true, false, cond}
 use mathlib.Core.List.{List, [], ◌∷◌, ◌++◌}

@@ -23,11 +23,11 @@ unfoldable pub count_of : ℕ → Float
 count_of n = of_int binary64 (pos n)
 
 -- `group_obs`: what the list l has at the readings of group g, in reading order
-abbrev pub field_own : List ℕ → ℕ → List Float → ℕ → List Float → List Float
-field_own group g l i own = cond (eqb (get_or group i 0) g) (own ++ (get_or l i nan ∷ [])) own
+abbrev pub own_at : List ℕ → ℕ → List Float → ℕ → List Float → List Float
+own_at group g l i own = cond (eqb (get_or group i 0) g) (own ++ (get_or l i nan ∷ [])) own
 
 unfoldable pub own_of : List ℕ → ℕ → List Float → List Float
-own_of group g l = iter (field_own group g l) (length group) []
+own_of group g l = iter (own_at group g l) (length group) []
 
 -- how many readings group g has
 abbrev pub next_place : ℕ → ℕ → ℕ → ℕ

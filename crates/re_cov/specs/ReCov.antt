@@ -3,7 +3,6 @@
 use Rattle.std.specs.Prelude.{ℕ, cond, List, [], ◌∷◌, eqb, Float, get_or}
 use Rattle.std.specs.Float.{nan}
 use Rattle.std.specs.Float.Ieee.{neg}
-use Rattle.std.specs.Float.Ieee as Ieee
 use Rattle.math.specs.Basic.{add, sub, mul, div, bits, zero, one, two, max_of}
 use Rattle.math.specs.Ln.{ln_of}
 use Rattle.math.specs.Matrix.{rows, entry}

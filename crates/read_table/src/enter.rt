@@ -2,8 +2,6 @@
 ghost use Rattle.std.specs.Prelude.{◌≡◌, cond, ◌≤◌, ◌*◌, ◌+◌, length, set};
 ghost use Rattle.read_table.specs.Table.{same_name, find_of};
 
-use check::same;
-
 // Whether the bytes from a to e are those from start to stop.
 fn same_name(text: &[u8], a: u64, e: u64, start: usize, stop: usize) -> bool
     requires { (start ≤ stop) × (stop ≤ length text.now) }
@@ -13,7 +11,7 @@ fn same_name(text: &[u8], a: u64, e: u64, start: usize, stop: usize) -> bool
     let to = e as usize;
     if from <= to {
         if to <= text.len() {
-            return same(&text[from..to], &text[start..stop]);
+            return &text[from..to] == &text[start..stop];
         }
     }
     false

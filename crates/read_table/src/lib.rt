@@ -11,7 +11,6 @@ ghost use Rattle.std.specs.Prelude.{◌≡◌, false, ◌&&◌, ◌≤◌, ◌*�
 ghost use Rattle.read_table.specs.Table.{after_mark, table_of, finish_of, last_fault, runs};
 
 use crate::step::{Progress, next_line};
-use check::same;
 
 // fault 0, or its number; the number of lines read, which is the line of a fault; the readings
 // entered; the canisters seen.
@@ -55,7 +54,7 @@ fn after_mark(text: &[u8]) -> usize
     if text.len() < 3 {
         return 0;
     }
-    if same(&text[..3], &[0xef, 0xbb, 0xbf]) {
+    if &text[..3] == [0xef, 0xbb, 0xbf].as_slice() {
         3
     } else {
         0

@@ -1,42 +1,51 @@
 // refit: see `refit help`. Here its words are put together; the crate refit_command does what they ask.
 #![tactic(auto)]
 
-use libc::{STDERR_FILENO, STDOUT_FILENO};
+use std::env::FillError;
+use std::io;
+use std::io::Write;
+use std::rt::{Env, Files};
 
-// Word i after those that end at a place, and a 0 after it: where it ends, or one more than there is room for.
-fn with_word(words: &mut [u8], at: usize, i: usize) -> usize {
-    if at >= words.len() {
-        return 65537;
+// Where the words end after word i, which is put at a place with a 0 after it; past the end where there is no room for both, and
+// nothing where there is no word i.
+fn with_word<R: Env>(rt: &R, words: &mut [u8], at: usize, i: usize) -> Option<usize> {
+    if at > words.len() {
+        return None;
     }
-    let n = os::arg(i, &mut words[at..]);
-    if os::errno() != 0 {
-        return 65537;
+    match rt.arg(i, &mut words[at..]) {
+        Ok(n) => Some(at + n + 1),
+        Err(FillError::TooLong) => Some(words.len() + 1),
+        Err(FillError::NotPresent) => None,
     }
-    at + n + 1
 }
 
-fn gathered(words: &mut [u8]) -> usize {
+fn gathered<R: Env>(rt: &R, words: &mut [u8]) -> usize {
     let mut at = 0usize;
-    let mut i = 1usize;
-    let n = os::arg_count();
-    while i < n {
-        at = with_word(words, at, i);
-        i += 1;
+    for i in 1..usize::MAX {
+        match with_word(rt, words, at, i) {
+            Some(end) => at = end,
+            None => break,
+        }
     }
     at
 }
 
 // The first n bytes are the words; more than there are do not fit.
-fn run(words: &[u8], n: usize) {
+fn run<R: Files + AllocGlobal, O: Write + Drop, E: Write + Drop>(
+    rt: &R,
+    words: &[u8],
+    n: usize,
+    out: O,
+    mut err: E,
+) -> io::Result<()> {
     if n > words.len() {
-        io::write_all(STDERR_FILENO, b"refit: the command line is too long\n");
-        return;
+        return err.write_all(b"refit: the command line is too long\n");
     }
-    refit_command::command(&words[0..n], STDOUT_FILENO, STDERR_FILENO);
+    refit_command::command(rt, &words[0..n], out, err)
 }
 
-fn main() {
-    let mut words = io::large_buffer();
-    let n = gathered(&mut words);
-    run(&words, n);
+fn main(rt: HostRuntime) -> io::Result<()> {
+    let mut words = [0u8; 65536];
+    let n = gathered(&rt, &mut words);
+    run(&rt, &words, n, rt.stdout(), rt.stderr())
 }

@@ -9,124 +9,184 @@ use crate::starts::{Starts, read_starts};
 use crate::words::{begin_of, end_from};
 use refit_options::options::Options;
 use refit_run::Outcome;
+use std::io::{Read, Write};
+use std::rt::Files;
+use std::{fs, io, str};
 
-// The descriptors for what is asked for, and for faults.
-#[derive(Clone, Copy)]
-struct Ends {
-    out: i32,
-    err: i32,
+// Of a file at most so many bytes are read.
+const LONGEST: usize = 65536;
+
+// The writers for what is asked for, and for faults.
+#[derive(Drop)]
+struct Ends<O: Write, E: Write> {
+    out: O,
+    err: E,
 }
 
 // `refit: `, what is at fault, `: ` and the fault in words.
-fn complain(to: Ends, what: &[u8], words: &[u8]) {
-    io::write_all(to.err, b"refit: ");
-    io::write_all(to.err, what);
-    io::write_all(to.err, b": ");
-    io::write_all(to.err, words);
-    io::write_all(to.err, b"\n");
+fn complain<O: Write, E: Write>(to: &mut Ends<O, E>, what: &[u8], words: &[u8]) -> io::Result<()> {
+    to.err.write_all(b"refit: ")?;
+    to.err.write_all(what)?;
+    to.err.write_all(b": ")?;
+    to.err.write_all(words)?;
+    to.err.write_all(b"\n")
 }
 
-// `refit: `, the file's name and the system's reason.
-fn fail(to: Ends, name: &[u8]) {
-    io::write_all(to.err, b"refit: ");
-    os::fail(name);
+// `refit: `, the file's name and the system's reason in words, without the number that std puts after them.
+fn fail<R: AllocGlobal, O: Write, E: Write>(
+    rt: &R,
+    to: &mut Ends<O, E>,
+    name: &[u8],
+    error: io::Error,
+) -> io::Result<()> {
+    let text = format!(in rt.alloc(); "{error}")?;
+    let reason = match text.as_str().split_once(" (os error ") {
+        Some((words, _)) => words,
+        None => text.as_str(),
+    };
+    complain(to, name, reason.as_bytes())
 }
 
-fn complain_of_word(to: Ends, words: &[u8], i: usize, fault: u64) {
-    let mut room = io::buffer();
+fn complain_of_word<O: Write, E: Write>(
+    to: &mut Ends<O, E>,
+    words: &[u8],
+    i: usize,
+    fault: u64,
+) -> io::Result<()> {
+    let mut room = [0u8; 4096];
     let p = refit_options::options::fault(&mut room, text_buffer::begin(), fault);
     let k = p.at;
     if k <= 4096 {
         let at = begin_of(words, i);
         let end = end_from(words, at, 0);
-        complain(to, &words[at..end], &room[0..k]);
+        complain(to, &words[at..end], &room[0..k])?;
     }
+    Ok(())
 }
 
-fn complain_of_line(to: Ends, name: &[u8], line: u64, fault: u64) {
-    let mut room = io::buffer();
+fn complain_of_line<O: Write, E: Write>(
+    to: &mut Ends<O, E>,
+    name: &[u8],
+    line: u64,
+    fault: u64,
+) -> io::Result<()> {
+    let mut room = [0u8; 4096];
     let p = refit_options::words::line_fault(&mut room, text_buffer::begin(), line, fault);
     let k = p.at;
     if k <= 4096 {
-        complain(to, name, &room[0..k]);
+        complain(to, name, &room[0..k])?;
     }
+    Ok(())
 }
 
-fn print_help(to: Ends) {
-    let mut room = io::large_buffer();
+fn print_help<O: Write, E: Write>(to: &mut Ends<O, E>) -> io::Result<()> {
+    let mut room = [0u8; 65536];
     let p = refit_options::help::help(&mut room, text_buffer::begin());
     let k = p.at;
     if k <= 65536 {
-        io::write_all(to.out, &room[0..k]);
+        to.out.write_all(&room[0..k])?;
     }
+    Ok(())
+}
+
+// A file's name, which std takes as text.
+fn path(name: &[u8]) -> io::Result<&str> {
+    match str::from_utf8(name) {
+        Ok(text) => Ok(text),
+        Err(_) => Err(io::Error::new(
+            io::ErrorKind::InvalidInput,
+            "the file's name is no UTF-8 text",
+        )),
+    }
+}
+
+// A file's bytes; of one that is longer than is read, one more than that.
+fn read_file<R: Files + AllocGlobal>(rt: &R, name: &[u8]) -> io::Result<Vec<u8>> {
+    let mut text = Vec::new(rt.alloc());
+    let file = fs::open(rt, path(name)?)?;
+    file.take(LONGEST as u64 + 1).read_to_end(&mut text)?;
+    Ok(text)
+}
+
+// The picture, written to the file that was named.
+fn write_file<R: Files>(rt: &R, name: &[u8], svg: &[u8]) -> io::Result<()> {
+    fs::write(rt, path(name)?, svg)
 }
 
 // The picture goes to the file that was named.
-fn save(to: Ends, name: &[u8], svg: &[u8]) {
-    let fd = os::open_overwrite(name);
-    if fd < 0 {
-        fail(to, name);
-        return;
-    }
-    let whole = io::write_all(fd, svg);
-    if !whole {
-        fail(to, name);
-    }
-    let closed = libc::close(fd);
-    if closed < 0 {
-        fail(to, name);
-        return;
-    }
-    if whole {
-        io::write_all(to.out, b"\nThe picture is in ");
-        io::write_all(to.out, name);
-        io::write_all(to.out, b"\n");
+fn save<R: Files + AllocGlobal, O: Write, E: Write>(
+    rt: &R,
+    to: &mut Ends<O, E>,
+    name: &[u8],
+    svg: &[u8],
+) -> io::Result<()> {
+    match write_file(rt, name, svg) {
+        Err(e) => fail(rt, to, name, e),
+        Ok(()) => {
+            to.out.write_all(b"\nThe picture is in ")?;
+            to.out.write_all(name)?;
+            to.out.write_all(b"\n")
+        }
     }
 }
 
-fn picture(to: Ends, words: &[u8], i: usize, r: Outcome, svg: &[u8]) {
+fn picture<R: Files + AllocGlobal, O: Write, E: Write>(
+    rt: &R,
+    to: &mut Ends<O, E>,
+    words: &[u8],
+    i: usize,
+    r: Outcome,
+    svg: &[u8],
+) -> io::Result<()> {
     let p = r.picture;
     let k = p.at;
     if p.full {
-        complain(to, b"--svg", b"the picture is too large; none was written");
-        return;
+        return complain(to, b"--svg", b"the picture is too large; none was written");
     }
     if k == 0 {
-        complain(
+        return complain(
             to,
             b"--svg",
             b"no picture was written: there is no fit, or the readings span no range that can be drawn",
         );
-        return;
     }
     if k <= svg.len() {
         let at = begin_of(words, i);
         let end = end_from(words, at, 0);
-        save(to, &words[at..end], &svg[0..k]);
+        save(rt, to, &words[at..end], &svg[0..k])?;
     }
+    Ok(())
 }
 
-fn show(to: Ends, words: &[u8], o: Options, r: Outcome, out: &[u8], svg: &[u8]) {
+fn show<R: Files + AllocGlobal, O: Write, E: Write>(
+    rt: &R,
+    to: &mut Ends<O, E>,
+    words: &[u8],
+    o: Options,
+    r: Outcome,
+    out: &[u8],
+    svg: &[u8],
+) -> io::Result<()> {
     let p = r.report;
     let k = p.at;
     if p.full {
-        complain(to, b"report", b"it is too long to be printed");
-        return;
+        return complain(to, b"report", b"it is too long to be printed");
     }
     if k <= out.len() {
-        if !io::write_all(to.out, &out[0..k]) {
-            fail(to, b"standard output");
-            return;
+        if let Err(e) = to.out.write_all(&out[0..k]) {
+            return fail(rt, to, b"standard output", e);
         }
     }
     if o.svg != 0 {
-        picture(to, words, o.svg, r, svg);
+        picture(rt, to, words, o.svg, r, svg)?;
     }
+    Ok(())
 }
 
 // The report and the picture of readings.
-fn refit(
-    to: Ends,
+fn refit<R: Files + AllocGlobal, O: Write, E: Write>(
+    rt: &R,
+    to: &mut Ends<O, E>,
     words: &[u8],
     o: Options,
     given: [f64; 4],
@@ -139,38 +199,38 @@ fn refit(
     grams: &[f64],
     groups: &[u64],
     names: &[u64],
-) {
+) -> io::Result<()> {
     let mut out = [0u8; 131072];
     let mut svg = [0u8; 131072];
     let r = refit_run::run(
         o, example, text, n, canisters, doses, grams, groups, names, given, &mut out, &mut svg,
     );
     if r.fault != 0 {
-        complain_of_line(to, name, 0, r.fault);
-        return;
+        return complain_of_line(to, name, 0, r.fault);
     }
-    show(to, words, o, r, &out, &svg);
+    show(rt, to, words, o, r, &out, &svg)
 }
 
-fn from_text(
-    to: Ends,
+fn from_text<R: Files + AllocGlobal, O: Write, E: Write>(
+    rt: &R,
+    to: &mut Ends<O, E>,
     words: &[u8],
     o: Options,
     given: [f64; 4],
     example: bool,
     name: &[u8],
     text: &[u8],
-) {
+) -> io::Result<()> {
     let mut doses = [0.0; 512];
     let mut grams = [0.0; 512];
     let mut groups = [0u64; 512];
     let mut names = [0u64; 64];
     let t = read_table::read_table(text, &mut doses, &mut grams, &mut groups, &mut names);
     if t.fault != 0 {
-        complain_of_line(to, name, t.line, t.fault);
-        return;
+        return complain_of_line(to, name, t.line, t.fault);
     }
     refit(
+        rt,
         to,
         words,
         o,
@@ -184,45 +244,45 @@ fn from_text(
         &grams,
         &groups,
         &names,
-    );
+    )
 }
 
 // The whole file, or the reason why it is not read.
-fn from_descriptor(to: Ends, words: &[u8], o: Options, given: [f64; 4], name: &[u8], fd: i32) {
-    let mut text = io::large_buffer();
-    let mut more = [0u8; 1];
-    let n = io::read_full(fd, &mut text);
-    let got = libc::read(fd, &mut more);
-    if got < 0 {
-        fail(to, name);
-        return;
-    }
-    if got > 0 {
-        complain(
-            to,
-            name,
-            b"the file is longer than 65536 bytes, or was not read whole",
-        );
-        return;
-    }
-    from_text(to, words, o, given, false, name, &text[..n]);
-}
-
-fn from_file(to: Ends, words: &[u8], o: Options, given: [f64; 4]) {
+fn from_file<R: Files + AllocGlobal, O: Write, E: Write>(
+    rt: &R,
+    to: &mut Ends<O, E>,
+    words: &[u8],
+    o: Options,
+    given: [f64; 4],
+) -> io::Result<()> {
     let at = begin_of(words, o.file);
     let end = end_from(words, at, 0);
-    let fd = os::open_read(&words[at..end]);
-    if fd < 0 {
-        fail(to, &words[at..end]);
-        return;
+    let name = &words[at..end];
+    match read_file(rt, name) {
+        Err(e) => fail(rt, to, name, e),
+        Ok(text) => {
+            if text.len() > LONGEST {
+                return complain(
+                    to,
+                    name,
+                    b"the file is longer than 65536 bytes, or was not read whole",
+                );
+            }
+            from_text(rt, to, words, o, given, false, name, text.as_slice())
+        }
     }
-    from_descriptor(to, words, o, given, &words[at..end], fd);
-    libc::close(fd);
 }
 
 // R's data set Orange.
-fn from_example(to: Ends, words: &[u8], o: Options, given: [f64; 4]) {
+fn from_example<R: Files + AllocGlobal, O: Write, E: Write>(
+    rt: &R,
+    to: &mut Ends<O, E>,
+    words: &[u8],
+    o: Options,
+    given: [f64; 4],
+) -> io::Result<()> {
     from_text(
+        rt,
         to,
         words,
         o,
@@ -230,7 +290,7 @@ fn from_example(to: Ends, words: &[u8], o: Options, given: [f64; 4]) {
         true,
         b"the example",
         b"# R's data set Orange: the age in days (dose), the circumference in mm (grams), the tree (canister).\nage,circumference,tree\n118,30,1\n484,58,1\n664,87,1\n1004,115,1\n1231,120,1\n1372,142,1\n1582,145,1\n118,33,2\n484,69,2\n664,111,2\n1004,156,2\n1231,172,2\n1372,203,2\n1582,203,2\n118,30,3\n484,51,3\n664,75,3\n1004,108,3\n1231,115,3\n1372,139,3\n1582,140,3\n118,32,4\n484,62,4\n664,112,4\n1004,167,4\n1231,179,4\n1372,209,4\n1582,214,4\n118,30,5\n484,49,5\n664,81,5\n1004,125,5\n1231,142,5\n1372,174,5\n1582,177,5\n",
-    );
+    )
 }
 
 // The start values given by hand: as many as the curve has values.
@@ -246,32 +306,32 @@ fn given_in(words: &[u8], o: Options) -> Starts {
     read_starts(&words[at..end])
 }
 
-// The words each end with a 0. What is asked for goes to the descriptor `out`, a fault to `err`, but for the reason of a fault of
-// the system, which goes to standard error.
-pub fn command(words: &[u8], out: i32, err: i32) {
-    let to = Ends { out: out, err: err };
+// The words each end with a 0. What is asked for goes to `out`, a fault to `err`.
+pub fn command<R: Files + AllocGlobal, O: Write + Drop, E: Write + Drop>(
+    rt: &R,
+    words: &[u8],
+    out: O,
+    err: E,
+) -> io::Result<()> {
+    let mut ends = Ends { out, err };
+    let to = &mut ends;
     let o = words::options(words);
     if o.fault != 0 {
-        complain_of_word(to, words, o.at, o.fault);
-        return;
+        return complain_of_word(to, words, o.at, o.fault);
     }
     if o.prints == 1 {
-        print_help(to);
-        return;
+        return print_help(to);
     }
     if o.prints == 2 {
-        io::write_all(to.out, b"refit 0.1.0, of Kemroul\n");
-        return;
+        return to.out.write_all(b"refit 0.1.0, of Kemroul\n");
     }
     let s = given_in(words, o);
     if s.count != curves::mean_fn::n_params(o.code) {
-        complain_of_word(to, words, o.start, 10);
-        return;
+        return complain_of_word(to, words, o.start, 10);
     }
     let given = s.values;
     if o.file == 0 {
-        from_example(to, words, o, given);
-        return;
+        return from_example(rt, to, words, o, given);
     }
-    from_file(to, words, o, given);
+    from_file(rt, to, words, o, given)
 }

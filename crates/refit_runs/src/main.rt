@@ -1,78 +1,95 @@
 // Runs the command `refit` on the files of data/, and writes what it writes: reports and pictures, and why a run is refused.
 #![tactic(auto)]
 
-use libc::STDOUT_FILENO;
 use refit_command::command;
+use std::io::{Stdout, Write};
+use std::rt::Files;
+use std::{fs, io};
 
 // A command line whose words each end with a 0, with spaces for the zeros.
-fn headed(words: &[u8]) {
-    io::write_all(STDOUT_FILENO, b"\n$ refit ");
+fn headed(mut out: Stdout, words: &[u8]) -> io::Result<()> {
+    out.write_all(b"\n$ refit ")?;
     let mut i = 0usize;
     while i < words.len() {
         if words[i] == 0 {
-            io::write_all(STDOUT_FILENO, b" ");
+            out.write_all(b" ")?;
         } else {
-            io::write_all(STDOUT_FILENO, &[words[i]]);
+            out.write_all(&[words[i]])?;
         }
         i += 1;
     }
-    io::write_all(STDOUT_FILENO, b"\n");
+    out.write_all(b"\n")
 }
 
-fn shown(words: &[u8]) {
-    headed(words);
-    command(words, STDOUT_FILENO, STDOUT_FILENO);
+fn shown<R: Files + AllocGlobal>(rt: &R, out: Stdout, words: &[u8]) -> io::Result<()> {
+    headed(out, words)?;
+    command(rt, words, out, out)
 }
 
 // Of the picture that a run wrote, at most so many bytes.
-fn picture(most: usize) {
-    let mut svg = [0u8; 131072];
-    let fd = os::open_read(b"picture.svg");
-    let n = io::read_full(fd, &mut svg);
-    libc::close(fd);
-    let k = text_buffer::lesser(n, most);
-    io::write_all(STDOUT_FILENO, &svg[0..k]);
+fn picture<R: Files + AllocGlobal>(rt: &R, mut out: Stdout, most: usize) -> io::Result<()> {
+    let svg = fs::read(rt, "picture.svg")?;
+    let k = text_buffer::lesser(svg.len(), most);
+    out.write_all(&svg.as_slice()[0..k])
 }
 
 // docs/fits-beside-r.md has these.
-fn beside_r() {
-    shown(b"loblolly.csv\0--curve\0SSasymp\0");
-    shown(b"puromycin.csv\0--curve\0SSmicmen\0");
-    shown(b"dnase.csv\0");
+fn beside_r<R: Files + AllocGlobal>(rt: &R, out: Stdout) -> io::Result<()> {
+    shown(rt, out, b"loblolly.csv\0--curve\0SSasymp\0")?;
+    shown(rt, out, b"puromycin.csv\0--curve\0SSmicmen\0")?;
+    shown(rt, out, b"dnase.csv\0")?;
+    Ok(())
 }
 
 // Made-up readings, as a spreadsheet writes them: a byte order mark, carriage returns, semicolons, a header; and a comment.
-fn a_machine() {
-    shown(b"machine.csv\0--curve\0SSmicmen\0--svg\0picture.svg\0");
-    picture(131072);
+fn a_machine<R: Files + AllocGlobal>(rt: &R, out: Stdout) -> io::Result<()> {
+    shown(
+        rt,
+        out,
+        b"machine.csv\0--curve\0SSmicmen\0--svg\0picture.svg\0",
+    )?;
+    picture(rt, out, 131072)?;
+    Ok(())
 }
 
 // From the rate where the curve takes its logarithm, so that it explains nothing; and with quadrature.
-fn warned() {
-    shown(b"--curve\0SSasymp\0--start\0175.8,31,0.0009259427\0--svg\0picture.svg\0");
+fn warned<R: Files + AllocGlobal>(rt: &R, out: Stdout) -> io::Result<()> {
+    shown(
+        rt,
+        out,
+        b"--curve\0SSasymp\0--start\0175.8,31,0.0009259427\0--svg\0picture.svg\0",
+    )?;
     // Up to the title.
-    picture(365);
-    shown(b"machine.csv\0--curve\0SSfpl\0--effect\0B\0--quadrature\03\0--reml\0");
+    picture(rt, out, 365)?;
+    shown(
+        rt,
+        out,
+        b"machine.csv\0--curve\0SSfpl\0--effect\0B\0--quadrature\03\0--reml\0",
+    )?;
+    Ok(())
 }
 
-fn refused() {
-    shown(b"density_first.csv\0");
-    shown(b"hash.csv\0");
-    shown(b"comma.csv\0");
-    shown(b"--ml\0machine.csv\0--reml\0");
-    shown(b"machine.csv\0--start\01,2\0");
-    shown(b"--effect\0K\0");
+fn refused<R: Files + AllocGlobal>(rt: &R, out: Stdout) -> io::Result<()> {
+    shown(rt, out, b"density_first.csv\0")?;
+    shown(rt, out, b"hash.csv\0")?;
+    shown(rt, out, b"comma.csv\0")?;
+    shown(rt, out, b"--ml\0machine.csv\0--reml\0")?;
+    shown(rt, out, b"machine.csv\0--start\01,2\0")?;
+    shown(rt, out, b"--effect\0K\0")?;
+    Ok(())
 }
 
-fn words() {
-    shown(b"--version\0");
-    shown(b"-h\0");
+fn words<R: Files + AllocGlobal>(rt: &R, out: Stdout) -> io::Result<()> {
+    shown(rt, out, b"--version\0")?;
+    shown(rt, out, b"-h\0")?;
+    Ok(())
 }
 
-fn main() {
-    beside_r();
-    a_machine();
-    warned();
-    refused();
-    words();
+fn main(rt: HostRuntime) -> io::Result<()> {
+    let out = rt.stdout();
+    beside_r(&rt, out)?;
+    a_machine(&rt, out)?;
+    warned(&rt, out)?;
+    refused(&rt, out)?;
+    words(&rt, out)
 }

@@ -1,3 +1,4 @@
+pub mod Finds
 pub mod Equality
 pub mod Numbers
 pub mod Places

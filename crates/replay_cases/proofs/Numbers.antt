@@ -1,18 +1,16 @@
 -- A word's digits read from place i on. Assumes nothing.
 use Prim.Native.Nat.{ℕ, suc, ◌+◌, ◌-◌, ◌*◌, ◌/◌, ◌^◌, ◌<◌, ◌≤◌}
 use mathlib.Core.Path.{◌≡◌, refl, sym, ap, ◌∙◌}
-use mathlib.Core.Bool.{Bool, true, false, ◌&&◌, cond}
+use mathlib.Core.Bool.{Bool, true, false, ◌&&◌}
 use mathlib.Core.List.{List, [], ◌∷◌}
 use native.Mathlib.Numerals.{add-one}
-use native.Mathlib.Nat.{le_refl, le_trans, mul-le-mul_left, mul-one, div-lt_iff_lt-mul, le-div_iff_mul-le}
+use native.Mathlib.Nat.{le_refl, mul-le-mul_left, mul-one, div-lt_iff_lt-mul, le-div_iff_mul-le}
 use native.Mathlib.Omega.{arith}
 use borrow.Author.Tests.{lt-ltb, le-ltb}
-use lib.Dec.{ltb}
 use lib.ListN.{length, drop, get_or}
 use lib.Seq.{drop-cons, drop-length}
 use Rattle.replay_cases.specs.Digits.{digit_of, are_digits, value_from, value, number_of}
 use Rattle.replay_cases.specs.declared.digits.Number.{Number}
-use Rattle.replay_cases.specs.declared.digits.Number.TheVariants as Number
 
 and_false : (b : Bool) → b && false ≡ false
 and_false true = refl

@@ -1,17 +1,15 @@
 -- The words of a line, one after the other.
 use Rattle.std.specs.Prelude.{ℕ, ◌+◌, ◌-◌, Bool, false, ◌&&◌, cond, List, ltb, length, take, drop}
-use Rattle.bytes.specs.Bytes.{index_of, slice}
 use Rattle.math.specs.Basic.{zero}
 use Rattle.math.specs.Lists.{same_bytes}
 use Rattle.replay_cases.specs.Digits.{decimal_of, float_of}
+use Rattle.replay_cases.specs.Find.{first_place}
 use Rattle.replay_cases.specs.declared.cursor.Cursor.{Cursor}
 use Rattle.replay_cases.specs.declared.cursor.NextWord.{NextWord}
 use Rattle.replay_cases.specs.declared.cursor.NextWhole.{NextWhole}
 use Rattle.replay_cases.specs.declared.cursor.NextFloat.{NextFloat}
 use Rattle.replay_cases.specs.declared.digits.Number.{Number}
-use Rattle.replay_cases.specs.declared.digits.Number.TheVariants as Number
 use Rattle.replay_cases.specs.declared.digits.Real.{Real}
-use Rattle.replay_cases.specs.declared.digits.Real.TheVariants as Real
 
 -- the place after a fault
 abbrev pub fault : Cursor
@@ -19,7 +17,7 @@ fault = record { at = 0; ok = false }
 
 -- where the word that starts at `at` ends: at the next space (32), or with the line
 unfoldable pub end_of : List ℕ → ℕ → ℕ
-end_of line at = at + index_of 32 (slice at (length line) line)
+end_of line at = first_place 32 line at (length line)
 
 -- the word at a place, and the place after it and one space; no word is empty
 unfoldable pub word_at : List ℕ → Cursor → NextWord

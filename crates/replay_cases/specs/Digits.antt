@@ -1,12 +1,10 @@
 -- What a word of digits says.
-use Rattle.std.specs.Prelude.{ℕ, ◌+◌, ◌-◌, ◌*◌, ◌^◌, Bool, true, false, ◌&&◌, cond, List, [], ◌∷◌, ltb, eqb, length}
+use Rattle.std.specs.Prelude.{ℕ, ◌+◌, ◌-◌, ◌*◌, ◌^◌, Bool, true, ◌&&◌, cond, List, [], ◌∷◌, ltb, eqb, length}
 use Rattle.std.specs.Float.{binary64, nan}
 use Rattle.std.specs.Float.Ieee.{of_bits}
 use Rattle.math.specs.Lists.{same_bytes}
 use Rattle.replay_cases.specs.declared.digits.Number.{Number}
-use Rattle.replay_cases.specs.declared.digits.Number.TheVariants as Number
 use Rattle.replay_cases.specs.declared.digits.Real.{Real}
-use Rattle.replay_cases.specs.declared.digits.Real.TheVariants as Real
 
 -- the value of the digits `0` to `9` and `a` to `f` (48 to 57, 97 to 102); any other byte has 16
 unfoldable pub digit_of : ℕ → ℕ

@@ -2,7 +2,6 @@
 use Rattle.std.specs.Prelude.{ℕ, ◌≤◌, Bool, cond, get_or}
 use Rattle.replay_cases.specs.declared.tally.Tally.{Tally}
 use Rattle.replay_cases.specs.declared.tally.Verdict.{Verdict}
-use Rattle.replay_cases.specs.declared.tally.Verdict.TheVariants as Verdict
 
 -- of a line of operation `op`, by whether the answers are the same
 abbrev pub verdict_of : ℕ → Bool → Verdict

@@ -5,7 +5,7 @@ ghost use Rattle.std.specs.Prelude.{◌≡◌, ◌≤◌, true, length};
 ghost use Rattle.replay_cases.specs.Cursor.{word_at, named_at, whole_at, float_at, finished_at};
 
 use crate::digits::{Number, Real, decimal, float_of};
-use check::same;
+use crate::find::find;
 
 // The next word starts at `at`; past the last word `at` is the line's length and one.
 #[derive(Clone, Copy)]
@@ -49,7 +49,7 @@ pub fn word(line: &[u8], c: Cursor) -> NextWord
     let at = c.at;
     if c.ok {
         if at < line.len() {
-            let end = bytes::scan::find(line, at, line.len(), 32);
+            let end = find(line, at, line.len(), b' ');
             return NextWord {
                 start: at,
                 end: end,
@@ -75,7 +75,7 @@ pub fn named(line: &[u8], c: Cursor, name: &[u8]) -> Cursor
     let start = w.start;
     let end = w.end;
     let next = w.next;
-    if same(&line[start..end], name) {
+    if &line[start..end] == name {
         return next;
     }
     Cursor { at: 0, ok: false }

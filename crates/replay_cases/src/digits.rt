@@ -2,7 +2,6 @@
 ghost use Rattle.std.specs.Prelude.{◌≡◌};
 ghost use Rattle.replay_cases.specs.Digits.{digit_of, number_of, hex_of, decimal_of, float_of};
 
-use check::same;
 use math::words::of_bits;
 
 #[derive(Clone, Copy)]
@@ -87,8 +86,7 @@ pub fn decimal(w: &[u8]) -> Number
 pub fn float_of(w: &[u8]) -> Real
     ensures { result ≡ float_of w.now }
 {
-    let nan = [110, 97, 110];
-    if same(w, &nan) {
+    if w == b"nan".as_slice() {
         return Real::Is(of_bits(0x7ff8_0000_0000_0000));
     }
     match hex(w) {

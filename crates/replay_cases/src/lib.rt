@@ -5,6 +5,7 @@
 
 pub mod cursor;
 pub mod digits;
+mod find;
 pub mod lent;
 pub mod lines;
 pub mod lists;

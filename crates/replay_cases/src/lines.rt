@@ -1,16 +1,17 @@
-// Standard input line by line, through a buffer that the caller lends. Files of any size work: the
+// An input line by line, as standard input, through a buffer that the caller lends. Files of any size work: the
 // whole lines in the buffer are handed out one by one, the rest is moved down, and the buffer is
 // filled up again. A proved loop has to end, and nothing says that the input does: `turns` falls
 // with each turn, from a number that no run uses up.
 //
 //     while run.turns > 0 {
-//         run = advance(buf, run);
+//         run = advance(&mut input, buf, run);
 //         if run.here { .. the line is &buf[start..end] .. }
 //     }
 ghost use Rattle.std.specs.Prelude.{◌≡◌, false, ◌+◌, ◌≤◌, ◌<◌, ◌^◌, min, length, take, drop};
 ghost use Rattle.replay_cases.specs.Lines.{Advanced};
 
-use libc::STDIN_FILENO;
+use crate::find::find;
+use std::io::Read;
 
 #[derive(Clone, Copy)]
 pub struct Run {
@@ -67,13 +68,13 @@ fn move_down(buf: &mut [u8], from: usize, n: usize)
 
 // The input has ended. What is left of it is a line without its end, which is a fault, and so is
 // an input that cannot be read.
-fn ended(mut r: Run, rest: usize, got: isize) -> Run
+fn ended(mut r: Run, rest: usize, failed: bool) -> Run
     ensures { (result.turns ≡ 0) × (result.start ≡ r.start) × (result.end ≡ r.end) }
 {
     if rest > 0 {
         r.lines = more(r.lines);
         r.faults = more(r.faults);
-    } else if got < 0 {
+    } else if failed {
         r.faults = more(r.faults);
     }
     r.turns = 0;
@@ -81,7 +82,7 @@ fn ended(mut r: Run, rest: usize, got: isize) -> Run
 }
 
 // No line end is left in the buffer: its `rest` bytes from `from` on are moved to its start, and more are read.
-fn refill(buf: &mut [u8], mut r: Run, from: usize, rest: usize) -> Run
+fn refill<R: Read>(input: &mut R, buf: &mut [u8], mut r: Run, from: usize, rest: usize) -> Run
     requires { from + rest ≤ length buf.old }
     ensures { (result.turns ≤ r.turns) × (result.start ≡ r.start) × (result.end ≡ r.end) }
 {
@@ -95,13 +96,14 @@ fn refill(buf: &mut [u8], mut r: Run, from: usize, rest: usize) -> Run
         r.skip = true;
         return r;
     }
-    let got = libc::read(STDIN_FILENO, &mut buf[rest..]);
-    let n = io::count(got, &buf[rest..]);
-    if n == 0 {
-        return ended(r, rest, got);
+    match input.read(&mut buf[rest..]) {
+        Ok(0) => ended(r, rest, false),
+        Ok(n) => {
+            r.to = rest + n;
+            r
+        }
+        Err(_) => ended(r, rest, true),
     }
-    r.to = rest + n;
-    r
 }
 
 // The line that ends at `end`. The end of a line that was too long is only passed.
@@ -122,7 +124,7 @@ fn found(mut r: Run, from: usize, end: usize) -> Run
 }
 
 // One turn: the next line, or more bytes, or the end.
-pub fn advance(buf: &mut [u8], mut r: Run) -> Run
+pub fn advance<R: Read>(input: &mut R, buf: &mut [u8], mut r: Run) -> Run
     ensures { Advanced r.turns (length buf.old) result }
 {
     r.here = false;
@@ -135,21 +137,21 @@ pub fn advance(buf: &mut [u8], mut r: Run) -> Run
         return r;
     }
     if to < from {
-        return ended(r, 1, 0);
+        return ended(r, 1, false);
     }
     if buf.len() == 0 {
-        return ended(r, 1, 0);
+        return ended(r, 1, false);
     }
     if buf.len() < to {
-        return ended(r, 1, 0);
+        return ended(r, 1, false);
     }
     r.turns = turns - 1;
-    let end = bytes::scan::find(buf, from, to, 10);
+    let end = find(buf, from, to, b'\n');
     if end < to {
         return found(r, from, end);
     }
     if r.skip {
-        return refill(buf, r, 0, 0);
+        return refill(input, buf, r, 0, 0);
     }
-    refill(buf, r, from, to - from)
+    refill(input, buf, r, from, to - from)
 }

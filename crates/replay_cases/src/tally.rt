@@ -4,7 +4,8 @@ ghost use Rattle.std.specs.Prelude.{◌≡◌, ◌<◌};
 ghost use Rattle.replay_cases.specs.Tally.{Sound, verdict_of};
 
 use crate::lines::{Run, more};
-use libc::STDOUT_FILENO;
+use std::io;
+use std::io::Write;
 
 // What a judge says of a line: the operation's place, and whether the answers agree.
 #[derive(Clone, Copy)]
@@ -121,35 +122,30 @@ pub fn at_end(mut t: Tally, run: Run) -> Tally
 }
 
 // `exp: 4499 of 4499 agree`, and the first line that differs, if there is one.
-pub fn print_operation(t: Tally, op: usize, name: &[u8]) {
+pub fn print_operation<W: Write>(out: &mut W, t: Tally, op: usize, name: &[u8]) -> io::Result<()> {
     if op < 4 {
         let lines = t.lines;
         let agree = t.agree;
         let differs = t.differs;
-        io::write_all(STDOUT_FILENO, name);
-        io::write_all(STDOUT_FILENO, b": ");
-        io::print_decimal(STDOUT_FILENO, agree[op]);
-        io::write_all(STDOUT_FILENO, b" of ");
-        io::print_decimal(STDOUT_FILENO, lines[op]);
-        io::write_all(STDOUT_FILENO, b" agree\n");
-        print_first(name, b" first differs in line ", differs[op]);
+        out.write_all(name)?;
+        writeln!(out, ": {} of {} agree", agree[op], lines[op])?;
+        print_first(out, name, b" first differs in line ", differs[op])?;
     }
+    Ok(())
 }
 
-fn print_first(name: &[u8], text: &[u8], number: u64) {
+fn print_first<W: Write>(out: &mut W, name: &[u8], text: &[u8], number: u64) -> io::Result<()> {
     if number > 0 {
-        io::write_all(STDOUT_FILENO, name);
-        io::write_all(STDOUT_FILENO, text);
-        io::print_decimal(STDOUT_FILENO, number);
-        io::write_all(STDOUT_FILENO, b"\n");
+        out.write_all(name)?;
+        out.write_all(text)?;
+        writeln!(out, "{number}")?;
     }
+    Ok(())
 }
 
 // `malformed: 0`, and what else went wrong, if anything did.
-pub fn print_malformed(t: Tally) {
-    io::write_all(STDOUT_FILENO, b"malformed: ");
-    io::print_decimal(STDOUT_FILENO, t.malformed);
-    io::write_all(STDOUT_FILENO, b"\n");
-    print_first(b"malformed", b" first in line ", t.bad);
-    print_first(b"lines", b" that could not be read: ", t.unread);
+pub fn print_malformed<W: Write>(out: &mut W, t: Tally) -> io::Result<()> {
+    writeln!(out, "malformed: {}", t.malformed)?;
+    print_first(out, b"malformed", b" first in line ", t.bad)?;
+    print_first(out, b"lines", b" that could not be read: ", t.unread)
 }

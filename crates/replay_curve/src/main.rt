@@ -12,6 +12,8 @@ use curves::Answer;
 use replay_cases::cursor::{Cursor, begin, finished, float, named, whole};
 use replay_cases::lent::kept;
 use replay_cases::tally::{Tally, Verdict};
+use std::io;
+use std::io::Read;
 
 // A number, 0 or a refusal's, and the mean and its gradients as the call leaves them.
 #[derive(Clone, Copy)]
@@ -92,13 +94,13 @@ fn judge(line: &[u8]) -> Verdict {
 }
 
 // Every line of standard input, judged and counted.
-fn replay(buf: &mut [u8]) -> Tally
+fn replay<R: Read>(input: &mut R, buf: &mut [u8]) -> Tally
     ensures { Sound result }
 {
     let mut run = replay_cases::lines::standard_input();
     let mut tally = replay_cases::tally::none();
     while run.turns > 0 {
-        run = replay_cases::lines::advance(buf, run);
+        run = replay_cases::lines::advance(input, buf, run);
         if run.here {
             let start = run.start;
             let end = run.end;
@@ -108,10 +110,11 @@ fn replay(buf: &mut [u8]) -> Tally
     replay_cases::tally::at_end(tally, run)
 }
 
-fn main() {
-    let mut buf = io::large_buffer();
-    let tally = replay(&mut buf);
-    replay_cases::tally::print_operation(tally, 0, b"curve");
-    replay_cases::tally::print_operation(tally, 1, b"gh_order");
-    replay_cases::tally::print_malformed(tally);
+fn main(rt: HostRuntime) -> io::Result<()> {
+    let mut buf = [0u8; 65536];
+    let tally = replay(&mut rt.stdin(), &mut buf);
+    let mut out = rt.stdout();
+    replay_cases::tally::print_operation(&mut out, tally, 0, b"curve")?;
+    replay_cases::tally::print_operation(&mut out, tally, 1, b"gh_order")?;
+    replay_cases::tally::print_malformed(&mut out, tally)
 }

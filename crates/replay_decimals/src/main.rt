@@ -2,35 +2,31 @@
 // it must write was made by Python's `float`, which rounds correctly.
 #![tactic(auto)]
 
-use libc::STDOUT_FILENO;
 use read_decimal::{Decimal, read_decimal};
+use std::io;
+use std::io::{Read, Write};
 
-fn answer(line: &[u8]) {
+fn answer<W: Write>(out: &mut W, line: &[u8]) -> io::Result<()> {
     match read_decimal(line) {
-        Decimal::Value(x) => {
-            io::print_hex(STDOUT_FILENO, math::words::bits_of(x), 16);
-        }
-        Decimal::Fault(k) => {
-            io::write_all(STDOUT_FILENO, b"fault ");
-            io::print_decimal(STDOUT_FILENO, k);
-        }
+        Decimal::Value(x) => writeln!(out, "{:016x}", math::words::bits_of(x)),
+        Decimal::Fault(k) => writeln!(out, "fault {k}"),
     }
-    io::write_all(STDOUT_FILENO, b"\n");
 }
 
-fn each(buf: &mut [u8]) {
+fn each<R: Read, W: Write>(input: &mut R, out: &mut W, buf: &mut [u8]) -> io::Result<()> {
     let mut run = replay_cases::lines::standard_input();
     while run.turns > 0 {
-        run = replay_cases::lines::advance(buf, run);
+        run = replay_cases::lines::advance(input, buf, run);
         if run.here {
             let start = run.start;
             let end = run.end;
-            answer(&buf[start..end]);
+            answer(out, &buf[start..end])?;
         }
     }
+    Ok(())
 }
 
-fn main() {
-    let mut buf = io::large_buffer();
-    each(&mut buf);
+fn main(rt: HostRuntime) -> io::Result<()> {
+    let mut buf = [0u8; 65536];
+    each(&mut rt.stdin(), &mut rt.stdout(), &mut buf)
 }

@@ -26,6 +26,8 @@ ghost use Rattle.replay_cases.specs.Tally.{Sound};
 use crate::case::judge_readings;
 use replay_cases::cursor::{begin, named};
 use replay_cases::tally::{Tally, Verdict};
+use std::io;
+use std::io::Read;
 
 fn judge(line: &[u8]) -> Verdict {
     let fit = named(line, begin(), b"fit");
@@ -44,13 +46,13 @@ fn judge(line: &[u8]) -> Verdict {
 }
 
 // Every line of standard input, judged and counted.
-fn replay(buf: &mut [u8]) -> Tally
+fn replay<R: Read>(input: &mut R, buf: &mut [u8]) -> Tally
     ensures { Sound result }
 {
     let mut run = replay_cases::lines::standard_input();
     let mut tally = replay_cases::tally::none();
     while run.turns > 0 {
-        run = replay_cases::lines::advance(buf, run);
+        run = replay_cases::lines::advance(input, buf, run);
         if run.here {
             let start = run.start;
             let end = run.end;
@@ -60,11 +62,12 @@ fn replay(buf: &mut [u8]) -> Tally
     replay_cases::tally::at_end(tally, run)
 }
 
-fn main() {
-    let mut buf = io::large_buffer();
-    let tally = replay(&mut buf);
-    replay_cases::tally::print_operation(tally, 0, b"fit");
-    replay_cases::tally::print_operation(tally, 1, b"criterion");
-    replay_cases::tally::print_operation(tally, 2, b"search");
-    replay_cases::tally::print_malformed(tally);
+fn main(rt: HostRuntime) -> io::Result<()> {
+    let mut buf = [0u8; 65536];
+    let tally = replay(&mut rt.stdin(), &mut buf);
+    let mut out = rt.stdout();
+    replay_cases::tally::print_operation(&mut out, tally, 0, b"fit")?;
+    replay_cases::tally::print_operation(&mut out, tally, 1, b"criterion")?;
+    replay_cases::tally::print_operation(&mut out, tally, 2, b"search")?;
+    replay_cases::tally::print_malformed(&mut out, tally)
 }

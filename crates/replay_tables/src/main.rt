@@ -2,90 +2,100 @@
 // each its fault, line, readings and canisters.
 #![tactic(auto)]
 
-use libc::STDOUT_FILENO;
 use read_table::read_table;
+use std::io;
+use std::io::Write;
 
-fn number(n: u64, after: &[u8]) {
-    io::print_decimal(STDOUT_FILENO, n);
-    io::write_all(STDOUT_FILENO, after);
+fn number<W: Write>(out: &mut W, n: u64, after: &[u8]) -> io::Result<()> {
+    write!(out, "{n}")?;
+    out.write_all(after)
 }
 
-fn shown(text: &[u8]) {
+fn shown<W: Write>(out: &mut W, text: &[u8]) -> io::Result<()> {
     let mut doses = [0.0; 4];
     let mut grams = [0.0; 4];
     let mut groups = [0u64; 4];
     let mut names = [0u64; 4];
     let t = read_table(text, &mut doses, &mut grams, &mut groups, &mut names);
-    number(t.fault, b" ");
-    number(t.line, b" ");
-    number(t.count as u64, b" ");
-    number(t.canisters as u64, b"\n");
+    number(out, t.fault, b" ")?;
+    number(out, t.line, b" ")?;
+    number(out, t.count as u64, b" ")?;
+    number(out, t.canisters as u64, b"\n")
 }
 
-fn good() {
-    shown(b"1 2 a\n2 3 b\n3,4,a\n");
-    shown(b"dose;grams;canister\n1;2;a\r\n\n  # note\n2 ; 3 ; a");
-    shown(b"\"dose\"\t\"grams\"\t\"can\"\n1.5\t\"2.5\"\t\"red-1\"\n");
-    shown(b"1 2 a\n1 2 b\n1 2 a\n1 2 b");
+fn good<W: Write>(out: &mut W) -> io::Result<()> {
+    shown(out, b"1 2 a\n2 3 b\n3,4,a\n")?;
+    shown(out, b"dose;grams;canister\n1;2;a\r\n\n  # note\n2 ; 3 ; a")?;
+    shown(
+        out,
+        b"\"dose\"\t\"grams\"\t\"can\"\n1.5\t\"2.5\"\t\"red-1\"\n",
+    )?;
+    shown(out, b"1 2 a\n1 2 b\n1 2 a\n1 2 b")?;
     // A byte order mark, and names that are no known words or stand in their columns.
-    shown(b"\xef\xbb\xbfAGE,\"Height (m)\",whatever\n1,2,a\n");
-    shown(b"\xef\xbb\xbf1 2 a\n");
+    shown(out, b"\xef\xbb\xbfAGE,\"Height (m)\",whatever\n1,2,a\n")?;
+    shown(out, b"\xef\xbb\xbf1 2 a\n")?;
+    Ok(())
 }
 
-fn bad() {
-    shown(b"1 2\n");
-    shown(b"1 2 a b\n");
-    shown(b"1 2 a\n\nx 2 a\n");
-    shown(b"1 x a\n");
-    shown(b"1234567890123456 2 a\n");
-    shown(b"1 1e99 a\n");
-    shown(b"1 2 a!\n");
-    shown(b"1 2 \"\"\n");
-    shown(b"1 2 a\n1 2 a\n1 2 a\n1 2 a\n1 2 a\n");
-    shown(b"1 2 a\n1 2 b\n1 2 c\n");
-    shown(b"");
-    shown(b"dose grams can\ndose grams can\n");
-    shown(b"1,,a\n");
-    shown(b"1 2 a,\n");
+fn bad<W: Write>(out: &mut W) -> io::Result<()> {
+    shown(out, b"1 2\n")?;
+    shown(out, b"1 2 a b\n")?;
+    shown(out, b"1 2 a\n\nx 2 a\n")?;
+    shown(out, b"1 x a\n")?;
+    shown(out, b"1234567890123456 2 a\n")?;
+    shown(out, b"1 1e99 a\n")?;
+    shown(out, b"1 2 a!\n")?;
+    shown(out, b"1 2 \"\"\n")?;
+    shown(out, b"1 2 a\n1 2 a\n1 2 a\n1 2 a\n1 2 a\n")?;
+    shown(out, b"1 2 a\n1 2 b\n1 2 c\n")?;
+    shown(out, b"")?;
+    shown(out, b"dose grams can\ndose grams can\n")?;
+    shown(out, b"1,,a\n")?;
+    shown(out, b"1 2 a,\n")?;
+    Ok(())
 }
 
 // A `#` that begins no line: in a name, in quotes, and behind a reading.
-fn hashes() {
-    shown(b"1,2,blue#1\n1,2,blue#2\n");
-    shown(b"1,2,\"blue#1\"\n");
-    shown(b"1 2 a\n1 2 a # last\n");
+fn hashes<W: Write>(out: &mut W) -> io::Result<()> {
+    shown(out, b"1,2,blue#1\n1,2,blue#2\n")?;
+    shown(out, b"1,2,\"blue#1\"\n")?;
+    shown(out, b"1 2 a\n1 2 a # last\n")?;
+    Ok(())
 }
 
 // Decimal commas, and lines that have none.
-fn commas() {
-    shown(b"1,5;2,5;a\n");
-    shown(b"118;30,5\n");
-    shown(b"1,5\t2\ta\n");
-    shown(b"1,5 2,5 a\n");
-    shown(b"\"1,5\";2;a\n");
-    shown(b"1;\"2,5\";a\n");
-    shown(b"1 , 2 , a\n");
-    shown(b"1,2\n");
-    shown(b"1,5,2,5,a\n");
-    shown(b"1 2,a\n");
+fn commas<W: Write>(out: &mut W) -> io::Result<()> {
+    shown(out, b"1,5;2,5;a\n")?;
+    shown(out, b"118;30,5\n")?;
+    shown(out, b"1,5\t2\ta\n")?;
+    shown(out, b"1,5 2,5 a\n")?;
+    shown(out, b"\"1,5\";2;a\n")?;
+    shown(out, b"1;\"2,5\";a\n")?;
+    shown(out, b"1 , 2 , a\n")?;
+    shown(out, b"1,2\n")?;
+    shown(out, b"1,5,2,5,a\n")?;
+    shown(out, b"1 2,a\n")?;
+    Ok(())
 }
 
 // Headers whose names are known words in another order.
-fn headers() {
-    shown(b"\"density\",\"conc\",\"Run\"\n1,2,a\n");
-    shown(b"tree,circumference,x\n1,2,a\n");
-    shown(b"a,b,grams\n1,2,a\n");
-    shown(b"# note\n\ngrams dose canister\n");
-    shown(b"dosage,gram,can\n1,2,a\n");
+fn headers<W: Write>(out: &mut W) -> io::Result<()> {
+    shown(out, b"\"density\",\"conc\",\"Run\"\n1,2,a\n")?;
+    shown(out, b"tree,circumference,x\n1,2,a\n")?;
+    shown(out, b"a,b,grams\n1,2,a\n")?;
+    shown(out, b"# note\n\ngrams dose canister\n")?;
+    shown(out, b"dosage,gram,can\n1,2,a\n")?;
     // Of a name the letters that it begins with count.
-    shown(b"x,dose2,run-1\n1,2,a\n");
-    shown(b"dose2,x,run-1\n1,2,a\n");
+    shown(out, b"x,dose2,run-1\n1,2,a\n")?;
+    shown(out, b"dose2,x,run-1\n1,2,a\n")?;
+    Ok(())
 }
 
-fn main() {
-    good();
-    bad();
-    hashes();
-    commas();
-    headers();
+fn main(rt: HostRuntime) -> io::Result<()> {
+    let mut out = rt.stdout();
+    good(&mut out)?;
+    bad(&mut out)?;
+    hashes(&mut out)?;
+    commas(&mut out)?;
+    headers(&mut out)
 }

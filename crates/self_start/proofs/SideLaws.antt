@@ -1,6 +1,6 @@
 -- What `approx` reads of points sorted by grams: only the last below the target, the first of the others and the last of the others. Assumes nothing.
 use mathlib.Core.Path.{◌≡◌, refl, sym, ap, ◌∙◌}
-use mathlib.Core.Bool.{Bool, true, false, cond, and_false}
+use mathlib.Core.Bool.{Bool, true, false, cond, and-false}
 use mathlib.Core.List.{List, [], ◌∷◌, ◌++◌, append-nil}
 use Prim.Native.Nat.{ℕ, ◌+◌, ◌-◌, ◌≤◌, ◌<◌}
 use native.Mathlib.Omega.{arith}
@@ -27,7 +27,7 @@ cond_same false x = refl
 module _ (t other : Float) where
   window_pass : (p q : Pair) (l : List Pair) → le t q.0 ≡ false → window_of p (q ∷ l) t ≡ window_of q l t
   unfolding window_of
-  window_pass p q l e = rw (e, and_false (le p.0 t))
+  window_pass p q l e = rw (e, and-false (le p.0 t))
 
   window_here : (p q : Pair) (l : List Pair) → le p.0 t ≡ true → le t q.0 ≡ true → window_of p (q ∷ l) t ≡ between_of p q t
   unfolding window_of

@@ -1,7 +1,6 @@
 -- The start of each curve, after self_start.rs, and the public operation of document 01.
 use Rattle.std.specs.Prelude.{Bool, not, cond, ◌&&◌, ◌||◌, List, [], ◌∷◌, ℕ, ◌/◌, ltb, eqb, length, Float}
 use Rattle.std.specs.Float.Ieee.{lt, le}
-use Rattle.std.specs.Float.Ieee as Ieee
 use Rattle.math.specs.Basic.{add, sub, mul, div, bits, zero, half, one, two, abs_of, max_of, is_finite}
 use Rattle.math.specs.Ln.{ln_of}
 use Rattle.sorting.specs.Pairs.{Pair, pair_at, zip, seconds}

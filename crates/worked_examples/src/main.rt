@@ -8,9 +8,12 @@ mod rows;
 mod say;
 mod sizes;
 
-fn main() {
-    rows::weigh_rows();
-    sizes::weigh_sizes();
-    elementary::weigh_exp();
-    elementary::weigh_ln();
+use std::io;
+
+fn main(rt: HostRuntime) -> io::Result<()> {
+    let mut out = rt.stdout();
+    rows::weigh_rows(&mut out)?;
+    sizes::weigh_sizes(&mut out)?;
+    elementary::weigh_exp(&mut out)?;
+    elementary::weigh_ln(&mut out)
 }

@@ -1,11 +1,12 @@
 // A line of what the program writes: a weighing in the document's words, and whether it came out.
-use libc::STDOUT_FILENO;
+use std::io;
+use std::io::Write;
 
-pub fn say(weighing: &[u8], holds: bool) {
-    io::write_all(STDOUT_FILENO, weighing);
+pub fn say<W: Write>(out: &mut W, weighing: &[u8], holds: bool) -> io::Result<()> {
+    out.write_all(weighing)?;
     if holds {
-        io::write_all(STDOUT_FILENO, b": ok\n");
+        out.write_all(b": ok\n")
     } else {
-        io::write_all(STDOUT_FILENO, b": WRONG\n");
+        out.write_all(b": WRONG\n")
     }
 }

@@ -1,4 +1,4 @@
--- `unfolding direction-computes` opens all that the normal blocks and a direction are computed by.
+-- `unfolding direction_computes` opens all that the normal blocks and a direction are computed by.
 use Rattle.std.specs.Float.Ieee as Ieee
 use Rattle.math.specs.Basic.{max_of, is_finite}
 use Rattle.math.specs.Lists.{every}

@@ -11,10 +11,10 @@ profile_objective-requires c =
 pub returns-in-Refused : goal.returns-in-Refused
 returns-in-Refused c =
     let a = c.args in
-    refused_as _ _ _ _ _ _ _ a.reml a.n-agq (rw c.in-Refused.is at c.fit-a.ensures)
+    refused_as _ _ _ _ _ _ _ a.reml a.n_agq (rw c.in-Refused.is at c.fit-a.ensures)
 
 pub returns-in-Done : goal.returns-in-Done
 returns-in-Done c =
     let a = c.args in
     let h = rw c.in-Done.is at c.fit-a.ensures in
-    rw (c.profile_objective.ensures, c.four-v.ensures) (profile_as _ _ _ _ _ _ _ a.reml a.n-agq (done_as _ _ _ _ _ _ _ h))
+    rw (c.profile_objective.ensures, c.four-v.ensures) (profile_as _ _ _ _ _ _ _ a.reml a.n_agq (done_as _ _ _ _ _ _ _ h))

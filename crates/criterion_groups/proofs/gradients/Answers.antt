@@ -1,6 +1,5 @@
 -- The definition composes the same two: the curve at b, and its gradients by the effects.
 use mathlib.Core.Path.{ap, ◌∙◌}
-use borrow.Author.Rules.{rules}
 use Rattle.fit_penalized.specs.Normal.{random_gradients}
 use Rattle.criterion_groups.specs.Groups.{gradients_at}
 use Rattle.criterion_groups.proofs.gradients.Goals as goal

@@ -1,11 +1,8 @@
 -- n counts the group's readings before i, so it is at most i, hence within 512.
-use mathlib.Core.Path.{◌≡◌}
-use Prim.Native.Nat.{◌-◌, ◌≤◌}
-use Rattle.math.specs.Loops.{iter}
 use Rattle.math.specs.laws.Loops.{iter_none, iter_more, iter_all}
 use lib.ListN.{length, get_or}
 use lib.Dec.{eqb}
-use Rattle.criterion_groups.specs.Groups.{size_at, size_of}
+use Rattle.criterion_groups.specs.Groups.{size_of}
 use Rattle.criterion_groups.proofs.Laws.{place_few}
 use native.Mathlib.Omega.{arith}
 use Rattle.criterion_groups.proofs.group_size.Goals as goal

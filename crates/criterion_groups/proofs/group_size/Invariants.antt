@@ -1,12 +1,9 @@
+-- n counts the group's readings before i; the measure is the number of readings left.
 use mathlib.Core.Path.{◌≡◌}
 use Prim.Native.Nat.{◌-◌, ◌≤◌}
 use Rattle.math.specs.Loops.{iter}
-use Rattle.math.specs.laws.Loops.{iter_none, iter_more, iter_all}
-use lib.ListN.{length, get_or}
-use lib.Dec.{eqb}
-use Rattle.criterion_groups.specs.Groups.{size_at, size_of}
-use Rattle.criterion_groups.proofs.Laws.{place_few}
-use native.Mathlib.Omega.{arith}
+use lib.ListN.{length}
+use Rattle.criterion_groups.specs.Groups.{size_at}
 use Rattle.criterion_groups.proofs.group_size.Given as goal
 
 abbrev pub invariant-loop-i : goal.invariant-loop-i

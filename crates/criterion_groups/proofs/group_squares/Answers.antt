@@ -1,12 +1,7 @@
 -- t is the sum of the first i squared residuals; there are as many grams as doses, so both are read.
-use mathlib.Core.Path.{◌≡◌}
-use Prim.Native.Nat.{◌-◌, ◌≤◌}
-use Rattle.math.specs.Loops.{iter}
 use Rattle.math.specs.laws.Loops.{iter_none, iter_more, iter_all}
 use lib.ListN.{length}
-use Rattle.math.specs.Basic.{zero}
-use Rattle.criterion_groups.specs.Groups.{square_at, group_squares}
-use borrow.Author.Rules.{rules}
+use Rattle.criterion_groups.specs.Groups.{group_squares}
 use native.Mathlib.Omega.{arith}
 use Rattle.criterion_groups.proofs.group_squares.Goals as goal
 

@@ -1,12 +1,10 @@
+-- t is the sum of the first i squared residuals; the measure is the number of readings left.
 use mathlib.Core.Path.{◌≡◌}
 use Prim.Native.Nat.{◌-◌, ◌≤◌}
 use Rattle.math.specs.Loops.{iter}
-use Rattle.math.specs.laws.Loops.{iter_none, iter_more, iter_all}
 use lib.ListN.{length}
 use Rattle.math.specs.Basic.{zero}
-use Rattle.criterion_groups.specs.Groups.{square_at, group_squares}
-use borrow.Author.Rules.{rules}
-use native.Mathlib.Omega.{arith}
+use Rattle.criterion_groups.specs.Groups.{square_at}
 use Rattle.criterion_groups.proofs.group_squares.Given as goal
 
 abbrev pub invariant-loop-i : goal.invariant-loop-i

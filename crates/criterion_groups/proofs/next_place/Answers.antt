@@ -1,6 +1,5 @@
 -- By whether the reading is the group's; n is at most 512, so the next place fits.
 use borrow.Author.Tests.{eq-eqb, ne_eqb}
-use borrow.Author.Rules.{rules}
 use Rattle.criterion_groups.proofs.next_place.Goals as goal
 
 pub returns-then-h-g : goal.returns-then-h-g

@@ -1,9 +1,8 @@
 -- The first n places hold what the list has at the readings of group g before i. Assumes nothing.
-use mathlib.Core.Path.{◌≡◌, ◌∙◌}
-use Prim.Native.Nat.{◌-◌, ◌≤◌, ◌<◌}
-use Rattle.math.specs.Loops.{iter}
+use mathlib.Core.Path.{◌∙◌}
+use Prim.Native.Nat.{◌<◌}
 use Rattle.math.specs.laws.Loops.{iter_none, iter_more, iter_all}
-use lib.ListN.{length, take, get_or, length-set}
+use lib.ListN.{length, get_or, length-set}
 use lib.Ieee.{nan}
 use mathlib.Core.List.{[]}
 use lib.Dec.{eqb}
@@ -23,15 +22,15 @@ loop-i-preserved c =
     let e = c.next_place-n.ensures in
     let t = eqb (get_or a.group.now l.i 0) a.g in
     let v = get_or a.list.now l.i nan in
-    let p : l.n < length l.own_val = omega arith in (
+    let p : l.n < length l.own = omega arith in (
       omega arith,
       (
         rw e (place_few t l.n l.i l.invariant.1.0),
         (
-          length-set l.own_val l.n v ∙ l.invariant.1.1.0,
+          length-set l.own l.n v ∙ l.invariant.1.1.0,
           (
             rw e (iter_more _ _ _ l.invariant.1.1.1.0),
-            rw e (own_more l.own_val l.n v t p ∙ iter_more (own_at a.group.now a.g a.list.now) l.i [] l.invariant.1.1.1.1),
+            rw e (own_more l.own l.n v t p ∙ iter_more (own_at a.group.now a.g a.list.now) l.i [] l.invariant.1.1.1.1),
           ),
         ),
       ),

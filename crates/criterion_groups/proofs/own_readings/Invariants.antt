@@ -1,15 +1,10 @@
-use mathlib.Core.Path.{◌≡◌, ◌∙◌}
-use Prim.Native.Nat.{◌-◌, ◌≤◌, ◌<◌}
+-- The first n places hold what the list has at the readings of group g before i; the measure is the number of readings left.
+use mathlib.Core.Path.{◌≡◌}
+use Prim.Native.Nat.{◌-◌, ◌≤◌}
 use Rattle.math.specs.Loops.{iter}
-use Rattle.math.specs.laws.Loops.{iter_none, iter_more, iter_all}
-use lib.ListN.{length, take, get_or, length-set}
-use lib.Ieee.{nan}
+use lib.ListN.{length, take}
 use mathlib.Core.List.{[]}
-use lib.Dec.{eqb}
-use Rattle.criterion_groups.specs.Groups.{size_at, size_of, own_at, own_of}
-use Rattle.criterion_groups.proofs.Laws.{place_few, own_more}
-use borrow.Author.Rules.{rules}
-use native.Mathlib.Omega.{arith}
+use Rattle.criterion_groups.specs.Groups.{size_at, own_at}
 use Rattle.criterion_groups.proofs.own_readings.Given as goal
 
 abbrev pub invariant-loop-i : goal.invariant-loop-i

@@ -1,9 +1,7 @@
 -- The places before i hold what stands there in the other list. Assumes nothing.
 use mathlib.Core.Path.{◌≡◌, refl, sym, ◌∙◌}
-use Prim.Native.Nat.{◌-◌, ◌≤◌}
 use native.Mathlib.Omega.{arith}
-use borrow.Author.Rules.{rules}
-use lib.ListN.{length, take, length-set}
+use lib.ListN.{length, length-set}
 use lib.Seq.{take_all}
 use Rattle.block_solve.proofs.Laws.{take_next}
 use Rattle.fit.proofs.write_first.Goals as goal

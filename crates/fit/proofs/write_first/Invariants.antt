@@ -1,10 +1,6 @@
-use mathlib.Core.Path.{◌≡◌, refl, sym, ◌∙◌}
+use mathlib.Core.Path.{◌≡◌}
 use Prim.Native.Nat.{◌-◌, ◌≤◌}
-use native.Mathlib.Omega.{arith}
-use borrow.Author.Rules.{rules}
-use lib.ListN.{length, take, length-set}
-use lib.Seq.{take_all}
-use Rattle.block_solve.proofs.Laws.{take_next}
+use lib.ListN.{length, take}
 use Rattle.fit.proofs.write_first.Given as goal
 
 abbrev pub invariant-loop-i : goal.invariant-loop-i

@@ -1,15 +1,13 @@
 -- `evaluate`: a turn stores the curve of reading i in its own five places, so those of the readings before it stay, and adds the square of its residual.
 -- Assumes nothing.
 use mathlib.Core.Path.{◌∙◌, ◌≡◌, ap}
-use Prim.Native.Nat.{◌*◌, ◌+◌, ◌-◌, ◌<◌, ◌≤◌, ℕ}
+use Prim.Native.Nat.{◌*◌, ◌+◌, ◌-◌, ◌≤◌}
 use native.Mathlib.Omega.{arith}
 use native.Mathlib.Nat.{not-suc-le-zero}
 use borrow.Author.Rules.{rules}
 use lib.ListN.{get_or, length}
-use Rattle.math.specs.Basic.{zero}
-use Rattle.math.specs.Loops.{iter}
 use Rattle.math.specs.laws.Loops.{iter_all, iter_more, iter_none}
-use Rattle.fit_penalized.specs.Penalized.{mean_at, mean_in, square_at, squares_of}
+use Rattle.fit_penalized.specs.Penalized.{squares_of}
 use Rattle.fit_step.specs.laws.Sized.{slot_fits}
 use Rattle.fit_penalized.proofs.Laws.{held_more, stored_length}
 use Rattle.fit_penalized.proofs.evaluate.Goals as goal
@@ -75,9 +73,8 @@ loop-i-preserved c =
 pub returns : goal.returns
 unfolding squares_of
 returns c =
-    let l = c.loop-i in record {
+    let l = c.loop-i in
+    record {
       rss = iter_all _ (length c.args.doses.now) _ _ l.invariant.1.1.0 l.invariant.0 c.loop-i-test.false;
-      kept = (
-      record { room = l.invariant.1.0; held = λ j h. l.invariant.1.1.1 j (omega arith) },
-    );
+      kept = record { room = l.invariant.1.0; held = λ j h. l.invariant.1.1.1 j (omega arith) };
     }

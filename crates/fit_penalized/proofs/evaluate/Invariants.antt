@@ -1,15 +1,9 @@
-use mathlib.Core.Path.{◌∙◌, ◌≡◌, ap}
-use Prim.Native.Nat.{◌*◌, ◌+◌, ◌-◌, ◌<◌, ◌≤◌, ℕ}
-use native.Mathlib.Omega.{arith}
-use native.Mathlib.Nat.{not-suc-le-zero}
-use borrow.Author.Rules.{rules}
-use lib.ListN.{get_or, length}
+use mathlib.Core.Path.{◌≡◌}
+use Prim.Native.Nat.{◌-◌, ◌<◌, ◌≤◌, ℕ}
+use lib.ListN.{length}
 use Rattle.math.specs.Basic.{zero}
 use Rattle.math.specs.Loops.{iter}
-use Rattle.math.specs.laws.Loops.{iter_all, iter_more, iter_none}
-use Rattle.fit_penalized.specs.Penalized.{mean_at, mean_in, square_at, squares_of}
-use Rattle.fit_step.specs.laws.Sized.{slot_fits}
-use Rattle.fit_penalized.proofs.Laws.{held_more, stored_length}
+use Rattle.fit_penalized.specs.Penalized.{mean_at, mean_in, square_at}
 use Rattle.fit_penalized.proofs.evaluate.Given as goal
 
 abbrev pub invariant-loop-i : goal.invariant-loop-i

@@ -1,6 +1,5 @@
 -- The reading's five places lie within the list, and each field is read from its own.
 use mathlib.Core.Path.{refl}
-use borrow.Author.Rules.{rules}
 use Rattle.fit_penalized.specs.Penalized.{mean_in}
 use Rattle.fit_penalized.proofs.load_mean.Goals as goal
 

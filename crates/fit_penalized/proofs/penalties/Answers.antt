@@ -1,13 +1,10 @@
 -- The sum of the groups before g; a group's part begins at g * k and lies within the list. Assumes nothing.
 use mathlib.Core.Path.{◌≡◌}
-use Prim.Native.Nat.{◌+◌, ◌-◌, ◌*◌, ◌≤◌}
-use Rattle.math.specs.Loops.{iter}
+use Prim.Native.Nat.{◌+◌, ◌-◌, ◌*◌}
 use Rattle.math.specs.laws.Loops.{iter_none, iter_more, iter_all}
-use Rattle.math.specs.Basic.{zero}
 use Rattle.math.specs.laws.Parts.{group_fits}
-use Rattle.fit_penalized.specs.Penalized.{penalty_at, penalty_sum}
+use Rattle.fit_penalized.specs.Penalized.{penalty_sum}
 use Rattle.fit_step.specs.laws.Sized.{all_fit}
-use borrow.Author.Rules.{rules}
 use native.Mathlib.Omega.{arith}
 use Rattle.fit_penalized.proofs.penalties.Goals as goal
 

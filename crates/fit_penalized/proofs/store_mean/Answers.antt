@@ -1,7 +1,6 @@
 -- The five places lie within the list, whose length no write changes.
 use mathlib.Core.Path.{refl}
 use native.Mathlib.Omega.{arith}
-use borrow.Author.Rules.{rules}
 use lib.ListN.{length-set}
 use Rattle.fit_penalized.specs.Penalized.{stored_mean}
 use Rattle.fit_penalized.proofs.store_mean.Goals as goal

@@ -25,4 +25,4 @@ unfolding evaluated_from
 returns c =
     let E = c.evaluate-rss in
     let b = c.penalties-penalty in
-    (record_of E.result _ b.result _ _ E.ensures.0 b.ensures, E.ensures.1)
+    (record_of E.result _ b.result _ _ E.ensures.rss b.ensures, E.ensures.kept)

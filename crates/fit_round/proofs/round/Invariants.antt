@@ -1,17 +1,5 @@
-use mathlib.Core.Path.{◌≡◌, refl, sym, ap, ◌∙◌}
-use mathlib.Core.Bool.{true, false}
-use mathlib.Core.Logic.{⊎_elim}
-use Prim.Native.Nat.{ℕ, ◌-◌, ◌+◌}
-use native.Mathlib.Omega.{arith}
-use borrow.Author.Rules.{rules}
-use lib.Ieee.{Float, lt}
-use lib.ListN.{length}
-use Rattle.fit_round.specs.declared.Outcome.{Outcome}
-use Rattle.fit_round.specs.Round.{1e-10}
-use Rattle.fit_round.specs.laws.Steps.{attempts_done, attempts_none, attempts_near}
-use Rattle.fit_round.specs.Rounds.{lost_with}
-use Rattle.fit_round.specs.laws.Rounds.{from_self}
-use Rattle.fit_round.proofs.Turns.{never, given, Attempts, Lengths, lost_came, won_came, no_direction, a_direction, trial_lost, attempt_over, trial_won}
+use Prim.Native.Nat.{◌-◌}
+use Rattle.fit_round.proofs.Turns.{Attempts, Lengths}
 use Rattle.fit_round.proofs.round.Given as goal
 
 abbrev pub invariant-loop-t : goal.invariant-loop-t

@@ -1,6 +1,5 @@
 -- The state tried is `try_step`'s, and the sums of that state are `evaluate_state`'s. Assumes nothing.
 use Rattle.fit_round.specs.laws.Rounds.{state_of}
-use borrow.Author.Rules.{rules}
 use Rattle.fit_round.proofs.trial.Goals as goal
 
 pub returns : goal.returns

@@ -11,7 +11,7 @@ overflow_mul-n c =
     let g = c.args in
     let P = c.requires in
     let q = asked g.code g.doses.now g.grams.now g.group.now g.groups g.effects.now g.starts.now g.lower.now g.upper.now g.group_lower.now g.group_upper.now in
-    omega (arith, few q g.max-rounds g.t P.0 P.1)
+    omega (arith, few q g.max_rounds g.t P.0 P.1)
 
 pub slice_bounds-values-end : goal.slice_bounds-values-end
 slice_bounds-values-end c = omega (arith, (params_few c.args.code).1, c.n_params-p.ensures)
@@ -21,7 +21,7 @@ slice_bounds-room-end c =
     let g = c.args in
     let P = c.requires in
     let q = asked g.code g.doses.now g.grams.now g.group.now g.groups g.effects.now g.starts.now g.lower.now g.upper.now g.group_lower.now g.group_upper.now in
-    omega (arith, few q g.max-rounds g.t P.0 P.1)
+    omega (arith, few q g.max_rounds g.t P.0 P.1)
 
 pub returns-in-Refused : goal.returns-in-Refused
 returns-in-Refused c =
@@ -29,7 +29,7 @@ returns-in-Refused c =
     let P = c.requires in
     let q = asked g.code g.doses.now g.grams.now g.group.now g.groups g.effects.now g.starts.now g.lower.now g.upper.now g.group_lower.now g.group_upper.now in
     let h = rw c.in-Refused.is at c.criterion-a.ensures in
-    not_refused q g.max-rounds g.t P.0 P.1 g.reml g.n-agq _ _ _ _ (taken _ _ _ c.n_params-p.ensures (params_few g.code).1) (taken _ _ _ refl (few q g.max-rounds g.t P.0 P.1)) _ h
+    not_refused q g.max_rounds g.t P.0 P.1 g.reml g.n_agq _ _ _ _ (taken _ _ _ c.n_params-p.ensures (params_few g.code).1) (taken _ _ _ refl (few q g.max_rounds g.t P.0 P.1)) _ h
 
 pub returns-in-Done : goal.returns-in-Done
 returns-in-Done c =
@@ -37,4 +37,4 @@ returns-in-Done c =
     let P = c.requires in
     let q = asked g.code g.doses.now g.grams.now g.group.now g.groups g.effects.now g.starts.now g.lower.now g.upper.now g.group_lower.now g.group_upper.now in
     let h = rw c.in-Done.is at c.criterion-a.ensures in
-    value_as q g.max-rounds g.t P.0 P.1 g.reml g.n-agq _ _ _ _ (taken _ _ _ c.n_params-p.ensures (params_few g.code).1) (taken _ _ _ refl (few q g.max-rounds g.t P.0 P.1)) _ h
+    value_as q g.max_rounds g.t P.0 P.1 g.reml g.n_agq _ _ _ _ (taken _ _ _ c.n_params-p.ensures (params_few g.code).1) (taken _ _ _ refl (few q g.max_rounds g.t P.0 P.1)) _ h

@@ -9,16 +9,16 @@ pub returns-then-fault-ne0 : goal.returns-then-fault-ne0
 returns-then-fault-ne0 c =
     let g = c.args in
     let q = asked g.code g.doses.now g.grams.now g.group.now g.groups g.effects.now g.starts.now g.lower.now g.upper.now g.group_lower.now g.group_upper.now in
-    refused_as q g.max-rounds g.reml g.n-agq g.max-narrowings _ c.search_fault-fault.ensures c.if-fault-ne0.true
+    refused_as q g.max_rounds g.reml g.n_agq g.max_narrowings _ c.search_fault-fault.ensures c.if-fault-ne0.true
 
 pub optimize_theta_golden-requires : goal.optimize_theta_golden-requires
 optimize_theta_golden-requires c =
     let g = c.args in
     let q = asked g.code g.doses.now g.grams.now g.group.now g.groups g.effects.now g.starts.now g.lower.now g.upper.now g.group_lower.now g.group_upper.now in
-    search_fits q g.max-rounds g.max-narrowings (sym c.search_fault-fault.ensures ∙ c.if-fault-ne0.false)
+    search_fits q g.max_rounds g.max_narrowings (sym c.search_fault-fault.ensures ∙ c.if-fault-ne0.false)
 
 pub returns : goal.returns
 returns c =
     let g = c.args in
     let q = asked g.code g.doses.now g.grams.now g.group.now g.groups g.effects.now g.starts.now g.lower.now g.upper.now g.group_lower.now g.group_upper.now in
-    done_as q g.max-rounds g.reml g.n-agq g.max-narrowings _ _ c.search_fault-fault.ensures c.if-fault-ne0.false c.optimize_theta_golden.ensures
+    done_as q g.max_rounds g.reml g.n_agq g.max_narrowings _ _ c.search_fault-fault.ensures c.if-fault-ne0.false c.optimize_theta_golden.ensures

@@ -1,12 +1,7 @@
 -- Every component passes where those from i on pass, and all before did. Assumes nothing.
-use mathlib.Core.Path.{◌≡◌, refl, sym, ◌∙◌}
-use Prim.Native.Nat.{◌-◌}
-use borrow.Author.Tests.{not-true, not-false}
-use native.Mathlib.Omega.{arith}
+use mathlib.Core.Path.{sym, ◌∙◌}
 use lib.Ieee.{nan}
-use lib.ListN.{length, drop}
 use Rattle.math.specs.Basic.{is_finite}
-use Rattle.math.specs.Lists.{every}
 use Rattle.math.specs.laws.Lists.{every_stop, every_go, every_done}
 use Rattle.group_blocks.proofs.all_finite.Goals as goal
 

@@ -1,12 +1,8 @@
-use mathlib.Core.Path.{◌≡◌, refl, sym, ◌∙◌}
+use mathlib.Core.Path.{◌≡◌}
 use Prim.Native.Nat.{◌-◌}
-use borrow.Author.Tests.{not-true, not-false}
-use native.Mathlib.Omega.{arith}
-use lib.Ieee.{nan}
 use lib.ListN.{length, drop}
 use Rattle.math.specs.Basic.{is_finite}
 use Rattle.math.specs.Lists.{every}
-use Rattle.math.specs.laws.Lists.{every_stop, every_go, every_done}
 use Rattle.group_blocks.proofs.all_finite.Given as goal
 
 abbrev pub invariant-loop-i : goal.invariant-loop-i

@@ -1,9 +1,6 @@
 -- t is the sum of the first j products; g below 32, j below 4 and l below 2 keep every place below 256.
-use mathlib.Core.Path.{◌≡◌}
-use Prim.Native.Nat.{◌-◌, ◌≤◌}
-use Rattle.math.specs.Loops.{span}
 use Rattle.math.specs.laws.Loops.{span_none, span_more, span_all}
-use Rattle.group_blocks.specs.Components.{columns_times_at, columns_times}
+use Rattle.group_blocks.specs.Components.{columns_times}
 use native.Mathlib.Omega.{arith}
 use Rattle.group_blocks.proofs.columns_times.Goals as goal
 

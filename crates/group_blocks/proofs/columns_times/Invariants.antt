@@ -1,9 +1,7 @@
 use mathlib.Core.Path.{◌≡◌}
 use Prim.Native.Nat.{◌-◌, ◌≤◌}
 use Rattle.math.specs.Loops.{span}
-use Rattle.math.specs.laws.Loops.{span_none, span_more, span_all}
-use Rattle.group_blocks.specs.Components.{columns_times_at, columns_times}
-use native.Mathlib.Omega.{arith}
+use Rattle.group_blocks.specs.Components.{columns_times_at}
 use Rattle.group_blocks.proofs.columns_times.Given as goal
 
 abbrev pub invariant-loop-j : goal.invariant-loop-j

@@ -1,6 +1,5 @@
 -- A group below 32 has its four places below 128, and only those on the diagonal are damped, as in the definition.
 use Rattle.group_blocks.specs.Columns.{damped_block}
-use borrow.Author.Rules.{rules}
 use Rattle.group_blocks.proofs.damped_block.Goals as goal
 
 pub returns : goal.returns

@@ -1,9 +1,7 @@
 -- A row of the system is changed place by place, and its right-hand side last, as the definition has it. Assumes nothing.
-use mathlib.Core.Path.{◌≡◌, refl}
-use Prim.Native.Nat.{◌-◌, ◌≤◌}
-use Rattle.math.specs.Loops.{span}
+use mathlib.Core.Path.{refl}
 use Rattle.math.specs.laws.Loops.{span_none, span_more, span_all}
-use Rattle.group_blocks.specs.Columns.{reduce_at, reduce_row, reduce_by}
+use Rattle.group_blocks.specs.Columns.{reduce_row, reduce_by}
 use native.Mathlib.Omega.{arith}
 use Rattle.group_blocks.proofs.reduce.Goals as goal
 

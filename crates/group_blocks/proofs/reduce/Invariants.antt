@@ -1,9 +1,7 @@
-use mathlib.Core.Path.{◌≡◌, refl}
+use mathlib.Core.Path.{◌≡◌}
 use Prim.Native.Nat.{◌-◌, ◌≤◌}
 use Rattle.math.specs.Loops.{span}
-use Rattle.math.specs.laws.Loops.{span_none, span_more, span_all}
-use Rattle.group_blocks.specs.Columns.{reduce_at, reduce_row, reduce_by}
-use native.Mathlib.Omega.{arith}
+use Rattle.group_blocks.specs.Columns.{reduce_at, reduce_row}
 use Rattle.group_blocks.proofs.reduce.Given as goal
 
 abbrev pub invariant-loop-j : goal.invariant-loop-j

@@ -1,11 +1,8 @@
 -- What is left of the definition, from the columns reached, is the definition from the start. Assumes nothing.
-use mathlib.Core.Path.{◌≡◌, refl, sym, ap, ◌∙◌}
-use Prim.Native.Nat.{◌-◌, ◌≤◌}
+use mathlib.Core.Path.{refl, sym, ap, ◌∙◌}
 use Rattle.linalg.specs.Pair.{is_none}
-use Rattle.group_blocks.specs.Columns.{columns_from}
 use Rattle.group_blocks.proofs.Laws.{columns_stop, columns_go, columns_done}
 use native.Mathlib.Omega.{arith}
-use borrow.Author.Rules.{rules}
 use Rattle.group_blocks.proofs.solve_columns.Goals as goal
 
 pub loop-j-init : goal.loop-j-init

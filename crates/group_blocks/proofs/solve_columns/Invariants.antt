@@ -1,10 +1,6 @@
-use mathlib.Core.Path.{◌≡◌, refl, sym, ap, ◌∙◌}
+use mathlib.Core.Path.{◌≡◌}
 use Prim.Native.Nat.{◌-◌, ◌≤◌}
-use Rattle.linalg.specs.Pair.{is_none}
 use Rattle.group_blocks.specs.Columns.{columns_from}
-use Rattle.group_blocks.proofs.Laws.{columns_stop, columns_go, columns_done}
-use native.Mathlib.Omega.{arith}
-use borrow.Author.Rules.{rules}
 use Rattle.group_blocks.proofs.solve_columns.Given as goal
 
 abbrev pub invariant-loop-j : goal.invariant-loop-j

@@ -1,9 +1,6 @@
 -- The group's first i places are written; with g below 32 its eight end at 256.
-use mathlib.Core.Path.{◌≡◌}
-use Prim.Native.Nat.{◌-◌, ◌≤◌}
-use Rattle.math.specs.Loops.{span}
 use Rattle.math.specs.laws.Loops.{span_none, span_more, span_all}
-use Rattle.group_blocks.specs.Columns.{store_at, store_columns}
+use Rattle.group_blocks.specs.Columns.{store_columns}
 use native.Mathlib.Omega.{arith}
 use Rattle.group_blocks.proofs.store_columns.Goals as goal
 

@@ -1,9 +1,7 @@
 use mathlib.Core.Path.{◌≡◌}
 use Prim.Native.Nat.{◌-◌, ◌≤◌}
 use Rattle.math.specs.Loops.{span}
-use Rattle.math.specs.laws.Loops.{span_none, span_more, span_all}
-use Rattle.group_blocks.specs.Columns.{store_at, store_columns}
-use native.Mathlib.Omega.{arith}
+use Rattle.group_blocks.specs.Columns.{store_at}
 use Rattle.group_blocks.proofs.store_columns.Given as goal
 
 abbrev pub invariant-loop-i : goal.invariant-loop-i

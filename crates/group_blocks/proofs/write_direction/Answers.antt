@@ -7,7 +7,6 @@ use borrow.Author.Rules.{rules}
 use borrow.Rule.Slice.PartMut.{same_len_mid}
 use lib.ListN.{length, take, length-set}
 use lib.Seq.{take_all}
-use Rattle.math.specs.Loops.{span}
 use Rattle.math.specs.laws.Loops.{span_none, span_more, span_all}
 use Rattle.math.specs.laws.Parts.{group_fits}
 use Rattle.group_blocks.specs.Components.{append_group, components_of}
@@ -76,7 +75,7 @@ loop-g-preserved c =
     let e : at + a.k - at ≡ a.k = omega arith in (
       omega arith,
       (
-        same_len_mid at (at + a.k - at) t.out c.write_effects.new.0 c.write_effects.auto.0 ∙ t.invariant.1.0,
+        same_len_mid at (at + a.k - at) t.out c.write_effects.new.out c.write_effects.auto.out ∙ t.invariant.1.0,
         rw (next_group a.p t.g a.k)
             (effects_put a.k _ at t.out _ _ _ (omega arith) (omega arith) e (omega (arith, f)) c.write_effects.ensures
             ∙ rw (c.columns_times-b.ensures, c.columns_times-a.ensures)

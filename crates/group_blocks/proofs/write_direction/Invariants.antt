@@ -1,16 +1,8 @@
-use mathlib.Core.Path.{◌≡◌, refl, sym, ◌∙◌}
+use mathlib.Core.Path.{◌≡◌}
 use Prim.Native.Nat.{◌-◌, ◌+◌, ◌*◌, ◌≤◌}
-use native.Mathlib.Nat.{zero-mul, add-zero}
-use native.Mathlib.Omega.{arith}
-use borrow.Author.Rules.{rules}
-use borrow.Rule.Slice.PartMut.{same_len_mid}
-use lib.ListN.{length, take, length-set}
-use lib.Seq.{take_all}
+use lib.ListN.{length, take}
 use Rattle.math.specs.Loops.{span}
-use Rattle.math.specs.laws.Loops.{span_none, span_more, span_all}
-use Rattle.math.specs.laws.Parts.{group_fits}
-use Rattle.group_blocks.specs.Components.{append_group, components_of}
-use Rattle.group_blocks.proofs.Laws.{take_next, next_group, effects_put}
+use Rattle.group_blocks.specs.Components.{append_group}
 use Rattle.group_blocks.proofs.write_direction.Given as goal
 
 abbrev pub invariant-loop-i : goal.invariant-loop-i

@@ -6,7 +6,6 @@ use lib.ListN.{length, length-set}
 use Rattle.math.specs.laws.Loops.{pick_true, pick_false}
 use Rattle.group_blocks.specs.Components.{effects_of}
 use Rattle.group_blocks.proofs.Laws.{write_one, write_two}
-use borrow.Author.Rules.{rules}
 use Rattle.group_blocks.proofs.write_effects.Goals as goal
 
 pub returns-then-out-eq2 : goal.returns-then-out-eq2

@@ -1,4 +1,4 @@
--- `unfolding linalg-computes` opens all that a solution, an inverse or a factor is computed by.
+-- `unfolding linalg_computes` opens all that a solution, an inverse or a factor is computed by.
 use Rattle.std.specs.Float.Ieee as Ieee
 use Rattle.math.specs.Basic.{abs_of}
 use Rattle.math.specs.laws.Computes.{sqrt_computes}

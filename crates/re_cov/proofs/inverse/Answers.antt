@@ -1,7 +1,6 @@
 -- By k: a reciprocal, or the closed form; what they divide by is `max` with 1e-16 in both.
 use borrow.Author.Tests.{eq-eqb, ne_eqb}
 use Rattle.re_cov.specs.ReCov.{inverse_from, det_of}
-use borrow.Author.Rules.{rules}
 use Rattle.re_cov.proofs.inverse.Goals as goal
 
 pub returns-then-k-eq1 : goal.returns-then-k-eq1

@@ -1,7 +1,6 @@
 -- By k: the factor's first diagonal entry alone counts, or both do.
 use borrow.Author.Tests.{eq-eqb, ne_eqb}
 use Rattle.re_cov.specs.ReCov.{log_det_of}
-use borrow.Author.Rules.{rules}
 use Rattle.re_cov.proofs.log_det_sigma.Goals as goal
 
 pub returns-then-k-eq1 : goal.returns-then-k-eq1

@@ -1,7 +1,6 @@
 -- By k; theta is read with NaNs past its end, as the definition reads it.
 use borrow.Author.Tests.{eq-eqb, ne_eqb}
 use Rattle.re_cov.specs.ReCov.{lower_chol_of}
-use borrow.Author.Rules.{rules}
 use Rattle.re_cov.proofs.lower_chol.Goals as goal
 
 pub returns-then-k-eq1 : goal.returns-then-k-eq1

@@ -1,7 +1,6 @@
 -- By k: the first place alone, or the second from it, by forward substitution in the definition's order.
 use borrow.Author.Tests.{eq-eqb, ne_eqb}
 use Rattle.re_cov.specs.ReCov.{lower_solve_of}
-use borrow.Author.Rules.{rules}
 use Rattle.re_cov.proofs.lower_solve.Goals as goal
 
 pub returns-then-k-eq1 : goal.returns-then-k-eq1

@@ -1,7 +1,6 @@
 -- By k: the square of one solved place, or of both.
 use borrow.Author.Tests.{eq-eqb, ne_eqb}
 use Rattle.re_cov.specs.ReCov.{penalty_of}
-use borrow.Author.Rules.{rules}
 use Rattle.re_cov.proofs.re_penalty.Goals as goal
 
 pub returns-then-k-eq1 : goal.returns-then-k-eq1

@@ -1,7 +1,6 @@
 -- By k: one square, or four products of the factor's rows, each by `dot`.
 use borrow.Author.Tests.{eq-eqb, ne_eqb}
 use Rattle.re_cov.specs.ReCov.{sigma_of}
-use borrow.Author.Rules.{rules}
 use Rattle.re_cov.proofs.sigma_from_theta.Goals as goal
 
 pub returns-then-k-eq1 : goal.returns-then-k-eq1

@@ -1,7 +1,6 @@
 -- The faults are tested by rising number, so at each return those before are excluded.
 use borrow.Author.Tests.{lt-ltb, le-ltb, eq-eqb, ne_eqb}
 use Rattle.self_start.specs.Start.{fault_of}
-use borrow.Author.Rules.{rules}
 use Rattle.self_start.proofs.fault.Goals as goal
 
 pub returns-then-code-lt1 : goal.returns-then-code-lt1

@@ -1,7 +1,7 @@
 -- What opens the starts for computation.
 use Rattle.std.specs.Float.Ieee.{lt, le}
 use Rattle.std.specs.Float.Ieee as Ieee
-use Rattle.math.specs.Basic.{add, sub, mul, div, abs_of, max_of, min_of, is_finite}
+use Rattle.math.specs.Basic.{abs_of, max_of, min_of, is_finite}
 use Rattle.math.specs.laws.Computes.{ln_computes}
 use Rattle.sorting.specs.Pairs.{zip, swapped, seconds}
 use Rattle.sorting.specs.Sort.{insert, insert_all}

@@ -1,6 +1,5 @@
 -- The number that an answer stands for.
 use Rattle.std.specs.Prelude.{ℕ}
-use Rattle.std.specs.Float.Ieee as Ieee
 use Rattle.self_start.specs.declared.Answer.{Answer}
 use Rattle.self_start.specs.declared.Answer.TheVariants.{Refused, Done}
 

@@ -1,9 +1,6 @@
 -- The first i places of the diagonal are damped, each by the block as it came, and the loop stops where i is p.
-use mathlib.Core.Path.{◌≡◌}
-use Prim.Native.Nat.{◌-◌, ◌≤◌}
-use Rattle.math.specs.Loops.{span}
 use Rattle.math.specs.laws.Loops.{span_none, span_more, span_all}
-use Rattle.block_solve.specs.Direction.{diagonal_at, damped_fixed}
+use Rattle.block_solve.specs.Direction.{damped_fixed}
 use native.Mathlib.Omega.{arith}
 use Rattle.block_solve.proofs.direction.damped_fixed.Goals as goal
 

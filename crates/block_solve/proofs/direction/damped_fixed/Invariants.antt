@@ -1,9 +1,7 @@
 use mathlib.Core.Path.{◌≡◌}
 use Prim.Native.Nat.{◌-◌, ◌≤◌}
 use Rattle.math.specs.Loops.{span}
-use Rattle.math.specs.laws.Loops.{span_none, span_more, span_all}
-use Rattle.block_solve.specs.Direction.{diagonal_at, damped_fixed}
-use native.Mathlib.Omega.{arith}
+use Rattle.block_solve.specs.Direction.{diagonal_at}
 use Rattle.block_solve.proofs.direction.damped_fixed.Given as goal
 
 abbrev pub invariant-loop-i : goal.invariant-loop-i

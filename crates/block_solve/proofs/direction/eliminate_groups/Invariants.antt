@@ -1,14 +1,7 @@
-use Rattle.group_blocks.specs.declared.Columns.{Columns}
-use mathlib.Core.Path.{◌≡◌, refl, sym, ap, ◌∙◌}
+use mathlib.Core.Path.{◌≡◌}
 use Prim.Native.Nat.{◌-◌, ◌≤◌}
-use Rattle.math.specs.laws.Loops.{pick_true, pick_false}
-use mathlib.Core.Bool.{true, not}
-use borrow.Author.Tests.{not-true, not-false}
-use Rattle.block_solve.specs.Direction.{untouched, groups_from, eliminated_of}
-use Rattle.block_solve.proofs.Laws.{groups_stop, groups_go, groups_done}
-use Rattle.linalg.specs.Pair.{is_none}
-use native.Mathlib.Omega.{arith}
-use borrow.Author.Rules.{rules}
+use mathlib.Core.Bool.{true}
+use Rattle.block_solve.specs.Direction.{groups_from}
 use Rattle.block_solve.proofs.direction.eliminate_groups.Given as goal
 
 abbrev pub invariant-loop-g : goal.invariant-loop-g

@@ -1,10 +1,8 @@
 -- The group's first i rows are added, and of row i the first l places; with the group below 32 every place is below 256. Assumes nothing.
-use mathlib.Core.Path.{◌≡◌, ◌∙◌}
-use Prim.Native.Nat.{◌-◌, ◌≤◌}
+use mathlib.Core.Path.{◌∙◌}
 use native.Mathlib.Omega.{arith}
-use Rattle.math.specs.Loops.{iter}
 use Rattle.math.specs.laws.Loops.{iter_none, iter_more, iter_all}
-use Rattle.block_solve.specs.Blocks.{cross_in, cross_line, cross_of}
+use Rattle.block_solve.specs.Blocks.{cross_of}
 use Rattle.block_solve.proofs.normal.add_cross.Goals as goal
 
 pub loop-i-init : goal.loop-i-init

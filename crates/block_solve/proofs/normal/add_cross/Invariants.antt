@@ -1,9 +1,7 @@
-use mathlib.Core.Path.{◌≡◌, ◌∙◌}
+use mathlib.Core.Path.{◌≡◌}
 use Prim.Native.Nat.{◌-◌, ◌≤◌}
-use native.Mathlib.Omega.{arith}
 use Rattle.math.specs.Loops.{iter}
-use Rattle.math.specs.laws.Loops.{iter_none, iter_more, iter_all}
-use Rattle.block_solve.specs.Blocks.{cross_in, cross_line, cross_of}
+use Rattle.block_solve.specs.Blocks.{cross_in, cross_line}
 use Rattle.block_solve.proofs.normal.add_cross.Given as goal
 
 abbrev pub invariant-loop-l : goal.invariant-loop-l

@@ -1,10 +1,8 @@
 -- The first i rows are added, and of row i the first j places, all below 16. Assumes nothing.
-use mathlib.Core.Path.{◌≡◌, ◌∙◌}
-use Prim.Native.Nat.{◌-◌, ◌≤◌}
+use mathlib.Core.Path.{◌∙◌}
 use native.Mathlib.Omega.{arith}
-use Rattle.math.specs.Loops.{iter}
 use Rattle.math.specs.laws.Loops.{iter_none, iter_more, iter_all}
-use Rattle.block_solve.specs.Blocks.{fixed_in, fixed_line, fixed_of}
+use Rattle.block_solve.specs.Blocks.{fixed_of}
 use Rattle.block_solve.proofs.normal.add_fixed.Goals as goal
 
 pub loop-i-init : goal.loop-i-init

@@ -1,10 +1,7 @@
 -- The first i of at most 4 places have had their gradient times the residual added.
-use mathlib.Core.Path.{◌≡◌}
-use Prim.Native.Nat.{◌-◌, ◌≤◌}
 use native.Mathlib.Omega.{arith}
-use Rattle.math.specs.Loops.{iter}
 use Rattle.math.specs.laws.Loops.{iter_none, iter_more, iter_all}
-use Rattle.block_solve.specs.Blocks.{fixed_rhs_in, fixed_rhs_of}
+use Rattle.block_solve.specs.Blocks.{fixed_rhs_of}
 use Rattle.block_solve.proofs.normal.add_fixed_rhs.Goals as goal
 
 pub loop-i-init : goal.loop-i-init

@@ -1,9 +1,7 @@
 use mathlib.Core.Path.{◌≡◌}
 use Prim.Native.Nat.{◌-◌, ◌≤◌}
-use native.Mathlib.Omega.{arith}
 use Rattle.math.specs.Loops.{iter}
-use Rattle.math.specs.laws.Loops.{iter_none, iter_more, iter_all}
-use Rattle.block_solve.specs.Blocks.{fixed_rhs_in, fixed_rhs_of}
+use Rattle.block_solve.specs.Blocks.{fixed_rhs_in}
 use Rattle.block_solve.proofs.normal.add_fixed_rhs.Given as goal
 
 abbrev pub invariant-loop-i : goal.invariant-loop-i

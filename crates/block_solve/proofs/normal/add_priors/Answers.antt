@@ -1,20 +1,11 @@
--- A group's effects are a part of b that lies within it (`group-fits`); each turn adds what the definition adds. Assumes nothing.
+-- A group's effects are a part of b that lies within it (`group_fits`); each turn adds what the definition adds. Assumes nothing.
 use mathlib.Core.Path.{◌≡◌, ◌∙◌}
-use Prim.Native.Nat.{◌-◌, ◌+◌, ◌*◌, ◌≤◌}
+use Prim.Native.Nat.{◌-◌, ◌+◌, ◌*◌}
 use Rattle.math.specs.laws.Parts.{group_fits}
-use Rattle.math.specs.Loops.{iter}
 use Rattle.math.specs.laws.Loops.{iter_none, iter_more, iter_all}
-use Rattle.block_solve.specs.Normal.{prior_at, prior_row, prior_group, add_priors}
+use Rattle.block_solve.specs.Normal.{prior_row, prior_group, add_priors}
 use native.Mathlib.Omega.{arith}
 use Rattle.block_solve.proofs.normal.add_priors.Goals as goal
-
-element-copy-out-n :
-    tie.Need-element-copy-out-n invariant-loop3 decreases-loop3 invariant-loop2 decreases-loop2 invariant-loop decreases-loop
-element-copy-out-n c = omega arith
-
-element-copy-out-n-2 :
-    tie.Need-element-copy-out-n-2 invariant-loop3 decreases-loop3 invariant-loop2 decreases-loop2 invariant-loop decreases-loop
-element-copy-out-n-2 c = omega arith
 
 pub loop-g-init : goal.loop-g-init
 loop-g-init c = (omega arith, iter_none _ _)

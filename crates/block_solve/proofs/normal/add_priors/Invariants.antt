@@ -1,10 +1,7 @@
-use mathlib.Core.Path.{◌≡◌, ◌∙◌}
-use Prim.Native.Nat.{◌-◌, ◌+◌, ◌*◌, ◌≤◌}
-use Rattle.math.specs.laws.Parts.{group_fits}
+use mathlib.Core.Path.{◌≡◌}
+use Prim.Native.Nat.{◌-◌, ◌≤◌}
 use Rattle.math.specs.Loops.{iter}
-use Rattle.math.specs.laws.Loops.{iter_none, iter_more, iter_all}
-use Rattle.block_solve.specs.Normal.{prior_at, prior_row, prior_group, add_priors}
-use native.Mathlib.Omega.{arith}
+use Rattle.block_solve.specs.Normal.{prior_at, prior_row, prior_group}
 use Rattle.block_solve.proofs.normal.add_priors.Given as goal
 
 abbrev pub invariant-loop-j : goal.invariant-loop-j

@@ -1,10 +1,8 @@
 -- The group's first i rows are added, and of row i the first j places; with the group below 32 every place is below 128. Assumes nothing.
-use mathlib.Core.Path.{◌≡◌, ◌∙◌}
-use Prim.Native.Nat.{◌-◌, ◌≤◌}
+use mathlib.Core.Path.{◌∙◌}
 use native.Mathlib.Omega.{arith}
-use Rattle.math.specs.Loops.{iter}
 use Rattle.math.specs.laws.Loops.{iter_none, iter_more, iter_all}
-use Rattle.block_solve.specs.Blocks.{random_in, random_line, random_of}
+use Rattle.block_solve.specs.Blocks.{random_of}
 use Rattle.block_solve.proofs.normal.add_random.Goals as goal
 
 pub loop-i-init : goal.loop-i-init

@@ -1,10 +1,7 @@
 -- The group's first i places have had their gradient times the residual added; group * 2 + i stays below 64.
-use mathlib.Core.Path.{◌≡◌}
-use Prim.Native.Nat.{◌-◌, ◌≤◌}
 use native.Mathlib.Omega.{arith}
-use Rattle.math.specs.Loops.{iter}
 use Rattle.math.specs.laws.Loops.{iter_none, iter_more, iter_all}
-use Rattle.block_solve.specs.Blocks.{random_rhs_in, random_rhs_of}
+use Rattle.block_solve.specs.Blocks.{random_rhs_of}
 use Rattle.block_solve.proofs.normal.add_random_rhs.Goals as goal
 
 pub loop-i-init : goal.loop-i-init

@@ -1,8 +1,6 @@
 -- Each block gets what the definition adds to it. Assumes nothing.
 use mathlib.Core.Path.{sym}
-use borrow.Author.Rules.{rules}
 use Rattle.block_solve.specs.laws.Blocks.{adds_to_each}
-use borrow.Author.Rules.{rules}
 use Rattle.block_solve.proofs.normal.add_reading.Goals as goal
 
 pub returns : goal.returns

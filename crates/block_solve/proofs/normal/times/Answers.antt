@@ -1,10 +1,6 @@
 -- t is the sum of the row's first j products, and b has no more than the row's two places.
-use mathlib.Core.Path.{◌≡◌}
-use Prim.Native.Nat.{◌-◌, ◌≤◌}
-use lib.ListN.{length}
-use Rattle.math.specs.Loops.{iter}
 use Rattle.math.specs.laws.Loops.{iter_none, iter_more, iter_all}
-use Rattle.block_solve.specs.Normal.{times_at, times_of}
+use Rattle.block_solve.specs.Normal.{times_of}
 use native.Mathlib.Omega.{arith}
 use Rattle.block_solve.proofs.normal.times.Goals as goal
 

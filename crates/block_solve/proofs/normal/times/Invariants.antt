@@ -2,9 +2,7 @@ use mathlib.Core.Path.{◌≡◌}
 use Prim.Native.Nat.{◌-◌, ◌≤◌}
 use lib.ListN.{length}
 use Rattle.math.specs.Loops.{iter}
-use Rattle.math.specs.laws.Loops.{iter_none, iter_more, iter_all}
-use Rattle.block_solve.specs.Normal.{times_at, times_of}
-use native.Mathlib.Omega.{arith}
+use Rattle.block_solve.specs.Normal.{times_at}
 use Rattle.block_solve.proofs.normal.times.Given as goal
 
 abbrev pub invariant-loop-j : goal.invariant-loop-j

@@ -1,6 +1,7 @@
 -- By the code: the tests of the codes before fail, and any other is taken for 4 in the definition too.
 use Rattle.curves.proofs.Laws.{test}
-use borrow.Author.Tests.{ne_eqb}
+use Rattle.std.proofs.Common.{arith}
+use Rattle.std.proofs.lemmas.Bool.Decides.{nat_tests}
 use Rattle.curves.specs.MeanFn.{eval_of}
 use Rattle.curves.proofs.mean_fn.eval.Goals as goal
 
@@ -18,6 +19,4 @@ returns-in-3 c = simp (c.ssmicmen_eval.ensures, test 1 c.in-3.is, test 2 c.in-3.
 
 pub returns-in_default : goal.returns-in_default
 unfolding eval_of
-returns-in_default c =
-    let none = c.in_default.in_default-own.rest in
-    simp (c.ssfpl_eval.ensures, ne_eqb _ _ none.0.0.1, ne_eqb _ _ none.0.1, ne_eqb _ _ none.1)
+returns-in_default c = grind (arith, nat_tests)

@@ -1,6 +1,7 @@
 -- At 3 and at 4 the definition computes; any other code fails both of its tests.
 use mathlib.Core.Path.{sym, ap}
-use borrow.Author.Tests.{ne_eqb}
+use Rattle.std.proofs.Common.{arith}
+use Rattle.std.proofs.lemmas.Bool.Decides.{nat_tests}
 use Rattle.curves.specs.MeanFn.{n_params_of}
 use Rattle.curves.proofs.mean_fn.n_params.Goals as goal
 
@@ -14,4 +15,4 @@ returns-in-4 c = sym (ap n_params_of c.in-4.is)
 
 pub returns-in_default : goal.returns-in_default
 unfolding n_params_of
-returns-in_default c = simp (ne_eqb _ _ c.in_default.in_default-own.rest.0.1, ne_eqb _ _ c.in_default.in_default-own.rest.1)
+returns-in_default c = grind (arith, nat_tests)

@@ -2,15 +2,13 @@
 use mathlib.Core.Path.{refl, sym, ap, ◌∙◌}
 use mathlib.Core.Bool.{false}
 use mathlib.Core.List.{List}
-use Prim.Native.Nat.{◌-◌}
 use native.Mathlib.Omega.{arith}
-use borrow.Author.Rules.{rules}
 use borrow.Author.Tests.{not-true, not-false}
 use lib.Ieee.{Float}
 use Rattle.fit_penalized.specs.Normal.{blocks_of}
 use Rattle.fit_round.specs.laws.Rounds.{state_of, from_self}
 use Rattle.fit.specs.laws.Steps.{rounds_done}
-use Rattle.fit.proofs.Turns.{given, Rounds, run_begins, ends_as, round_lost, round_near, round_on}
+use Rattle.fit.proofs.Turns.{given, run_begins, ends_as, round_lost, round_near, round_on}
 use Rattle.fit.proofs.run.run.Goals as goal
 
 pub evaluate_state-x-requires : goal.evaluate_state-x-requires
@@ -46,12 +44,6 @@ round-o-requires c =
 pub overflow_add-trials : goal.overflow_add-trials
 overflow_add-trials c = omega (arith, c.loop-rounds.invariant.few, c.loop-rounds-test.true, c.round-o.ensures.few, c.requires.1)
 
-pub shape_of-d-then-not-o : goal.shape_of-d-then-not-o
-shape_of-d-then-not-o c = let e = c.d-1.given ∙ c.loop-rounds.invariant.same_d in search rules
-
-pub shape_of-means-then-not-o : goal.shape_of-means-then-not-o
-shape_of-means-then-not-o c = let e = c.means-in-loop-rounds-1.given ∙ c.loop-rounds.invariant.curves.room ∙ sym c.requires.0.curves in search rules
-
 pub returns-then-not-o : goal.returns-then-not-o
 returns-then-not-o c =
     let g = c.args in
@@ -59,13 +51,7 @@ returns-then-not-o c =
     let o = c.round-o.result in
     let q = (given g.code g.effects.now g.groups g.doses.now g.grams.now g.group.now g.lower.now g.upper.now g.group_lower.now g.group_upper.now g.theta.now g.starts.now) in
     let blocks = c.normal-n.ensures ∙ ap (λ (m : List (List Float)). blocks_of g.code g.effects.now g.doses.now g.grams.now g.group.now g.lower.now g.upper.now g.groups m L.x.state) c.sigma_inv_from_theta-inverse.ensures in
-    c.end_with.ensures ∙ round_lost q g.allowed L.rounds L.x c.normal-n.result L.lambda L.trials o _ c.loop-rounds-test.true blocks L.invariant.evaluated (c.round-o.ensures.round g.starts.now) L.invariant.whole c.if-not-o.true
-
-pub shape_of-d-then-o : goal.shape_of-d-then-o
-shape_of-d-then-o c = let e = c.d-1.given ∙ c.loop-rounds.invariant.same_d in search rules
-
-pub shape_of-means-then-o : goal.shape_of-means-then-o
-shape_of-means-then-o c = let e = c.means-in-loop-rounds-1.given ∙ c.loop-rounds.invariant.curves.room ∙ sym c.requires.0.curves in search rules
+    c.end_with.ensures ∙ round_lost q g.allowed L.rounds L.x c.normal-n.result L.lambda L.trials o _ c.loop-rounds-test.true blocks L.invariant.evaluated (c.round-o.ensures.round g.starts.now) L.invariant.whole (not-true _ c.if-not-o.true)
 
 pub returns-then-o : goal.returns-then-o
 returns-then-o c =
@@ -74,7 +60,7 @@ returns-then-o c =
     let o = c.round-o.result in
     let q = (given g.code g.effects.now g.groups g.doses.now g.grams.now g.group.now g.lower.now g.upper.now g.group_lower.now g.group_upper.now g.theta.now g.starts.now) in
     let blocks = c.normal-n.ensures ∙ ap (λ (m : List (List Float)). blocks_of g.code g.effects.now g.doses.now g.grams.now g.group.now g.lower.now g.upper.now g.groups m L.x.state) c.sigma_inv_from_theta-inverse.ensures in
-    let w = c.if-not-o.false in
+    let w = not-false _ c.if-not-o.false in
     c.end_with-then-o.ensures ∙ round_near q g.allowed L.rounds L.x c.normal-n.result L.lambda L.trials o _ c.loop-rounds-test.true blocks L.invariant.evaluated (c.round-o.ensures.round g.starts.now) L.invariant.whole w (c.round-o.ensures.evaluated w) c.if-o.true
 
 pub loop-rounds-smaller : goal.loop-rounds-smaller
@@ -87,21 +73,15 @@ loop-rounds-preserved c =
     let o = c.round-o.result in
     let q = (given g.code g.effects.now g.groups g.doses.now g.grams.now g.group.now g.lower.now g.upper.now g.group_lower.now g.group_upper.now g.theta.now g.starts.now) in
     let blocks = c.normal-n.ensures ∙ ap (λ (m : List (List Float)). blocks_of g.code g.effects.now g.doses.now g.grams.now g.group.now g.lower.now g.upper.now g.groups m L.x.state) c.sigma_inv_from_theta-inverse.ensures in
-    let w = c.if-not-o.false in
+    let w = not-false _ c.if-not-o.false in
     record {
       most = omega (arith, c.loop-rounds-test.true);
       few = omega (arith, L.invariant.few, c.round-o.ensures.few);
-      same_d = c.d-1.given ∙ L.invariant.same_d;
+      same_d = c.round-o.auto.d ∙ L.invariant.same_d;
       evaluated = c.round-o.ensures.evaluated w;
       curves = c.round-o.ensures.curves w;
       whole = round_on q g.allowed L.rounds L.x c.normal-n.result L.lambda L.trials o _ c.loop-rounds-test.true blocks L.invariant.evaluated (c.round-o.ensures.round g.starts.now) L.invariant.whole w c.if-o.false;
     }
-
-pub shape_of-d : goal.shape_of-d
-shape_of-d c = let e = c.loop-rounds.invariant.same_d in search rules
-
-pub shape_of-means : goal.shape_of-means
-shape_of-means c = let e = c.loop-rounds.invariant.curves.room ∙ sym c.requires.0.curves in search rules
 
 pub returns : goal.returns
 returns c =

@@ -1,6 +1,5 @@
 -- Four calls of `free`, one for each value, in the definition's order.
 use mathlib.Core.Path.{refl}
-use borrow.Author.Rules.{rules}
 use Rattle.fit_penalized.specs.Normal.{fixed_gradients}
 use Rattle.fit_penalized.proofs.normal.fixed_gradients.Goals as goal
 

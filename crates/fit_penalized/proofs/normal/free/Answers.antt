@@ -1,6 +1,5 @@
 -- The bounds compared are the definition's: each where it stands, or a NaN past the end.
 use mathlib.Core.Path.{sym}
-use borrow.Author.Rules.{rules}
 use Rattle.math.specs.laws.Loops.{pick_false, pick_true}
 use Rattle.fit_penalized.proofs.normal.free.Goals as goal
 

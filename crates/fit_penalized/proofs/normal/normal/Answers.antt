@@ -18,7 +18,6 @@ slice_bounds-b-end c =
 
 pub slice_bounds-add_prior-end : goal.slice_bounds-add_prior-end
 slice_bounds-add_prior-end c =
-    let good = c.well_formed. in
     let h : length c.args.s.effects ≡ 64 = search rules in
     rw length-take (omega (arith, all_fit c.args.groups (length c.args.effects.now) c.requires.1.1.1 c.requires.0.two))
 

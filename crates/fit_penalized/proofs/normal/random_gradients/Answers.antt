@@ -1,7 +1,6 @@
 -- An effect's index is below 4, so its gradient is one of the four; a second one is read only where there are two.
 use mathlib.Core.Path.{refl}
 use native.Mathlib.Omega.{arith}
-use borrow.Author.Rules.{rules}
 use borrow.Author.Tests.{eq-eqb, ne_eqb}
 use Rattle.fit_penalized.specs.Normal.{random_gradients}
 use Rattle.fit_penalized.proofs.normal.random_gradients.Goals as goal

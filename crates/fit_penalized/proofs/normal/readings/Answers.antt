@@ -1,13 +1,9 @@
 -- `readings`: the blocks of the readings before i, each from its curve in the list; a reading is added block by block. Assumes nothing.
-use mathlib.Core.Path.{◌∙◌, ◌≡◌}
-use Prim.Native.Nat.{◌-◌, ◌≤◌}
+use mathlib.Core.Path.{◌∙◌}
 use native.Mathlib.Omega.{arith}
-use borrow.Author.Rules.{rules}
 use lib.ListN.{length}
-use Rattle.math.specs.Loops.{iter}
 use Rattle.math.specs.laws.Loops.{iter_all, iter_more, iter_none}
-use Rattle.block_solve.specs.Normal.{empty_of}
-use Rattle.fit_penalized.specs.Normal.{reading_in, readings_in}
+use Rattle.fit_penalized.specs.Normal.{readings_in}
 use Rattle.fit_step.specs.laws.Sized.{few_params}
 use Rattle.fit_penalized.proofs.Laws.{by_blocks}
 use Rattle.fit_penalized.proofs.normal.readings.Goals as goal

@@ -1,14 +1,9 @@
-use mathlib.Core.Path.{◌∙◌, ◌≡◌}
+use mathlib.Core.Path.{◌≡◌}
 use Prim.Native.Nat.{◌-◌, ◌≤◌}
-use native.Mathlib.Omega.{arith}
-use borrow.Author.Rules.{rules}
 use lib.ListN.{length}
 use Rattle.math.specs.Loops.{iter}
-use Rattle.math.specs.laws.Loops.{iter_all, iter_more, iter_none}
 use Rattle.block_solve.specs.Normal.{empty_of}
-use Rattle.fit_penalized.specs.Normal.{reading_in, readings_in}
-use Rattle.fit_step.specs.laws.Sized.{few_params}
-use Rattle.fit_penalized.proofs.Laws.{by_blocks}
+use Rattle.fit_penalized.specs.Normal.{reading_in}
 use Rattle.fit_penalized.proofs.normal.readings.Given as goal
 
 abbrev pub invariant-loop-i : goal.invariant-loop-i

@@ -1,9 +1,6 @@
 -- From the last row up t places are solved, and v is the row's right-hand side less what the solved places before j take.
-use mathlib.Core.Path.{◌≡◌}
-use Prim.Native.Nat.{◌-◌, ◌+◌, ◌≤◌}
-use Rattle.math.specs.Loops.{span}
 use Rattle.math.specs.laws.Loops.{span_none, span_more, span_all}
-use Rattle.linalg.specs.Elimination.{less_known, known, back_of}
+use Rattle.linalg.specs.Elimination.{known, back_of}
 use native.Mathlib.Omega.{arith}
 use Rattle.linalg.proofs.elimination.back_substitute.Goals as goal
 

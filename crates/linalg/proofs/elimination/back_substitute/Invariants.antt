@@ -1,9 +1,7 @@
 use mathlib.Core.Path.{◌≡◌}
 use Prim.Native.Nat.{◌-◌, ◌+◌, ◌≤◌}
 use Rattle.math.specs.Loops.{span}
-use Rattle.math.specs.laws.Loops.{span_none, span_more, span_all}
-use Rattle.linalg.specs.Elimination.{less_known, known, back_of}
-use native.Mathlib.Omega.{arith}
+use Rattle.linalg.specs.Elimination.{less_known, known}
 use Rattle.linalg.proofs.elimination.back_substitute.Given as goal
 
 abbrev pub invariant-loop-j : goal.invariant-loop-j

@@ -1,9 +1,6 @@
 -- The row's entries from the pivot's column up to j are lessened, by a factor that was taken before any of them changed.
-use mathlib.Core.Path.{◌≡◌}
-use Prim.Native.Nat.{◌-◌, ◌≤◌}
-use Rattle.math.specs.Loops.{span}
 use Rattle.math.specs.laws.Loops.{span_none, span_more, span_all}
-use Rattle.linalg.specs.Elimination.{less_at, clear_row}
+use Rattle.linalg.specs.Elimination.{clear_row}
 use native.Mathlib.Omega.{arith}
 use Rattle.linalg.proofs.elimination.clear_row.Goals as goal
 

@@ -1,6 +1,6 @@
 -- What is left from column i on answers as the whole does: a zero pivot stops both, and else the rows below it are cleared one by one.
-use mathlib.Core.Path.{◌≡◌, refl, sym, ap, ◌∙◌}
-use Prim.Native.Nat.{◌-◌, ◌+◌, ◌≤◌}
+use mathlib.Core.Path.{refl, sym, ap, ◌∙◌}
+use Prim.Native.Nat.{◌+◌}
 use Rattle.math.specs.Loops.{span}
 use Rattle.math.specs.laws.Loops.{span_none, span_more, span_all}
 use Rattle.linalg.specs.Elimination.{swap_of, clear_row, eliminate_from}

@@ -1,10 +1,7 @@
-use mathlib.Core.Path.{◌≡◌, refl, sym, ap, ◌∙◌}
+use mathlib.Core.Path.{◌≡◌}
 use Prim.Native.Nat.{◌-◌, ◌+◌, ◌≤◌}
 use Rattle.math.specs.Loops.{span}
-use Rattle.math.specs.laws.Loops.{span_none, span_more, span_all}
-use Rattle.linalg.specs.Elimination.{swap_of, clear_row, eliminate_from}
-use Rattle.linalg.specs.laws.Elimination.{eliminate_stop, eliminate_go, eliminate_done}
-use native.Mathlib.Omega.{arith}
+use Rattle.linalg.specs.Elimination.{clear_row, eliminate_from}
 use Rattle.linalg.proofs.elimination.eliminate.Given as goal
 
 abbrev pub invariant-loop-r : goal.invariant-loop-r

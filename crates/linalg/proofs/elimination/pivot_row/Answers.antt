@@ -1,9 +1,7 @@
 -- best is the definition's choice among the rows before r, and it stays below n, so its entry can be read.
-use mathlib.Core.Path.{◌≡◌, ◌∙◌}
-use Prim.Native.Nat.{◌-◌, ◌+◌, ◌≤◌, ◌<◌}
-use Rattle.math.specs.Loops.{span}
+use mathlib.Core.Path.{◌∙◌}
+use Prim.Native.Nat.{◌+◌}
 use Rattle.math.specs.laws.Loops.{span_none, span_more, span_all}
-use mathlib.Core.Logic.{⊎_elim}
 use Rattle.linalg.specs.Elimination.{better, pivot_of}
 use native.Mathlib.Omega.{arith}
 use Rattle.linalg.proofs.elimination.pivot_row.Goals as goal
@@ -19,8 +17,8 @@ loop-r-preserved c =
     let t = c.loop-r in
     let m = span_more (better a.a a.i) (a.i + 1) t.r a.i t.invariant.1.0 t.invariant.1.1.1 in
     elim c.if-was-is.branch [
-      | then-was-is w ↦ (omega arith, (omega arith, (omega arith, w.1 ∙ (simp (← c.abs-is.ensures, ← c.abs-was.ensures, w.if-was-is.true) at m))))
-      | else-was-is w ↦ (omega arith, (omega arith, (omega arith, w.1 ∙ (simp (← c.abs-is.ensures, ← c.abs-was.ensures, w.if-was-is.false) at m))))
+      | then-was-is w ↦ (omega arith, (omega arith, (omega arith, w.best-is ∙ (simp (← c.abs-is.ensures, ← c.abs-was.ensures, w.if-was-is.true) at m))))
+      | else-was-is w ↦ (omega arith, (omega arith, (omega arith, w.best-is ∙ (simp (← c.abs-is.ensures, ← c.abs-was.ensures, w.if-was-is.false) at m))))
     ]
 
 pub returns : goal.returns

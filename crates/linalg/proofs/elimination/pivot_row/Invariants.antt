@@ -1,10 +1,7 @@
-use mathlib.Core.Path.{◌≡◌, ◌∙◌}
+use mathlib.Core.Path.{◌≡◌}
 use Prim.Native.Nat.{◌-◌, ◌+◌, ◌≤◌, ◌<◌}
 use Rattle.math.specs.Loops.{span}
-use Rattle.math.specs.laws.Loops.{span_none, span_more, span_all}
-use mathlib.Core.Logic.{⊎_elim}
-use Rattle.linalg.specs.Elimination.{better, pivot_of}
-use native.Mathlib.Omega.{arith}
+use Rattle.linalg.specs.Elimination.{better}
 use Rattle.linalg.proofs.elimination.pivot_row.Given as goal
 
 abbrev pub invariant-loop-r : goal.invariant-loop-r

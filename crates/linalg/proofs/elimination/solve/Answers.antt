@@ -3,7 +3,6 @@ use mathlib.Core.Path.{sym, ◌∙◌}
 use borrow.Author.Tests.{le-leb, lt-leb}
 use Rattle.math.specs.laws.Loops.{pick_true, pick_false}
 use Rattle.linalg.specs.Elimination.{solve_of}
-use borrow.Author.Rules.{rules}
 use Rattle.linalg.proofs.elimination.solve.Goals as goal
 
 pub returns-then-n-gt4 : goal.returns-then-n-gt4

@@ -1,9 +1,6 @@
 -- The first j columns are exchanged, and the right-hand sides after the last of them.
-use mathlib.Core.Path.{◌≡◌}
-use Prim.Native.Nat.{◌-◌, ◌≤◌}
-use Rattle.math.specs.Loops.{span}
 use Rattle.math.specs.laws.Loops.{span_none, span_more, span_all}
-use Rattle.linalg.specs.Elimination.{swap_column, swap_of}
+use Rattle.linalg.specs.Elimination.{swap_of}
 use native.Mathlib.Omega.{arith}
 use Rattle.linalg.proofs.elimination.swap_rows.Goals as goal
 

@@ -3,7 +3,6 @@ use mathlib.Core.Path.{sym, ◌∙◌}
 use borrow.Author.Tests.{eq-eqb, ne_eqb}
 use Rattle.math.specs.laws.Loops.{pick_true, pick_false}
 use Rattle.linalg.specs.Pair.{cholesky_of}
-use borrow.Author.Rules.{rules}
 use Rattle.linalg.proofs.pair.cholesky.Goals as goal
 
 pub returns-then-k-eq1 : goal.returns-then-k-eq1

@@ -4,7 +4,6 @@ use borrow.Author.Tests.{eq-eqb, ne_eqb}
 use Rattle.math.specs.laws.Loops.{pick_true, pick_false}
 use Rattle.math.specs.Basic.{zero, one}
 use Rattle.linalg.specs.Pair.{pair_of, columns_of, beside, inverse_of}
-use borrow.Author.Rules.{rules}
 use Rattle.linalg.proofs.pair.inverse.Goals as goal
 
 pub returns-in_default : goal.returns-in_default
@@ -24,16 +23,14 @@ pub returns-in_default-solve_pair : goal.returns-in_default-solve_pair
 unfolding inverse_of
 returns-in_default-solve_pair c =
     let a = c.args in
-    let e = c.a-1 in
-    ap (beside _ _) (sym c.enum_told-in_default-solve_pair-1.given.1 ∙ c.solve_pair-2.ensures)
+    ap (beside _ _) (sym c.in_default-solve_pair.is ∙ c.solve_pair-2.ensures)
     ∙ sym (pick_false _ _ _ (ne_eqb _ _ c.if-k-eq1.false))
-    ∙ ap (λ r. columns_of a.k r (pair_of a.k a.m zero one)) (sym e.given.1 ∙ c.solve_pair.ensures)
+    ∙ ap (λ r. columns_of a.k r (pair_of a.k a.m zero one)) (sym c.in-Pair.is ∙ c.solve_pair.ensures)
 
 pub returns : goal.returns
 unfolding inverse_of
 returns c =
     let a = c.args in
-    let e = c.a-1 in
     ap (beside _ _) (sym c.in-Pair-solve_pair.is ∙ c.solve_pair-2.ensures)
     ∙ sym (pick_false _ _ _ (ne_eqb _ _ c.if-k-eq1.false))
-    ∙ ap (λ r. columns_of a.k r (pair_of a.k a.m zero one)) (sym e.given.1 ∙ c.solve_pair.ensures)
+    ∙ ap (λ r. columns_of a.k r (pair_of a.k a.m zero one)) (sym c.in-Pair.is ∙ c.solve_pair.ensures)

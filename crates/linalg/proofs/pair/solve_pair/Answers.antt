@@ -3,7 +3,6 @@ use mathlib.Core.Path.{sym, ◌∙◌}
 use borrow.Author.Tests.{eq-eqb, ne_eqb}
 use Rattle.math.specs.laws.Loops.{pick_true, pick_false}
 use Rattle.linalg.specs.Pair.{pair_of}
-use borrow.Author.Rules.{rules}
 use Rattle.linalg.proofs.pair.solve_pair.Goals as goal
 
 pub returns-then-a : goal.returns-then-a

@@ -1,6 +1,5 @@
 -- By which first entry is larger in size: the rows go in as they stand, or exchanged.
 use Rattle.linalg.specs.Pair.{two_of}
-use borrow.Author.Rules.{rules}
 use Rattle.linalg.proofs.pair.solve_two.Goals as goal
 
 pub returns-then-p-q : goal.returns-then-p-q

@@ -1,7 +1,6 @@
 -- By the case of the order that is resolved, with 0 in place of none.
 use mathlib.Core.Path.{sym, ap, ◌∙◌}
 use Rattle.quadrature.specs.Orders.{or_zero}
-use borrow.Author.Rules.{rules}
 use Rattle.quadrature.proofs.orders.gh_order.Goals as goal
 
 pub returns-in_default : goal.returns-in_default

@@ -1,6 +1,6 @@
 -- p is ord ^ i and no more than 400, so the next factor fits; once a power is above 400 every higher one is. Assumes nothing.
 use mathlib.Core.Path.{◌≡◌, sym}
-use Prim.Native.Nat.{◌-◌, ◌^◌, ◌≤◌}
+use Prim.Native.Nat.{◌^◌, ◌≤◌}
 use native.Mathlib.Nat.{mul-le-mul, pow-zero}
 use native.Mathlib.Omega.{arith}
 use borrow.Author.Tests.{le-leb}

@@ -1,10 +1,6 @@
-use mathlib.Core.Path.{◌≡◌, sym}
+use mathlib.Core.Path.{◌≡◌}
 use Prim.Native.Nat.{◌-◌, ◌^◌, ◌≤◌}
-use native.Mathlib.Nat.{mul-le-mul, pow-zero}
-use native.Mathlib.Omega.{arith}
-use borrow.Author.Tests.{le-leb}
 use Rattle.quadrature.specs.Orders.{max_points}
-use Rattle.quadrature.proofs.OrderLaws.{power_next, power_above}
 use Rattle.quadrature.proofs.orders.power_fits.Given as goal
 
 abbrev pub invariant-loop-i : goal.invariant-loop-i

@@ -1,9 +1,6 @@
 -- What is left to try from ord gives what all gives from base: ord is left out only where its power is above 400. Assumes nothing.
-use mathlib.Core.Path.{◌≡◌, sym, ◌∙◌}
-use Prim.Native.Nat.{◌≤◌}
+use mathlib.Core.Path.{sym, ◌∙◌}
 use native.Mathlib.Omega.{arith}
-use borrow.Author.Rules.{rules}
-use Rattle.quadrature.specs.Orders.{capped, product_of}
 use Rattle.quadrature.proofs.OrderLaws.{order_range, product_none, product_one, product_more, capped_fits, capped_lower, capped_none}
 use Rattle.quadrature.proofs.orders.resolve_gh_order_product.Goals as goal
 

@@ -1,9 +1,6 @@
-use mathlib.Core.Path.{◌≡◌, sym, ◌∙◌}
+use mathlib.Core.Path.{◌≡◌}
 use Prim.Native.Nat.{◌≤◌}
-use native.Mathlib.Omega.{arith}
-use borrow.Author.Rules.{rules}
 use Rattle.quadrature.specs.Orders.{capped, product_of}
-use Rattle.quadrature.proofs.OrderLaws.{order_range, product_none, product_one, product_more, capped_fits, capped_lower, capped_none}
 use Rattle.quadrature.proofs.orders.resolve_gh_order_product.Given as goal
 
 abbrev pub invariant-loop-ord : goal.invariant-loop-ord

@@ -2,7 +2,6 @@
 use lib.Ieee.{div, of_bits, nan}
 use mathlib.Core.Path.{sym}
 use lib.ListN.{get_or-eq_default}
-use borrow.Author.Rules.{rules}
 use Rattle.quadrature.proofs.rules.at.Goals as goal
 
 pub returns : goal.returns

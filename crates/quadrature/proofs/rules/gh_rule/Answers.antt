@@ -2,7 +2,6 @@
 use lib.Ieee.{div, of_bits, round, neg}
 use borrow.Author.Tests.{ne_eqb}
 use Rattle.quadrature.specs.Rules.{nodes_of, weights_of, z3, z5, z7, z9, z11, w3, w5, w7, w9, w11}
-use borrow.Author.Rules.{rules}
 use Rattle.quadrature.proofs.rules.gh_rule.Goals as goal
 
 pub returns-in-3 : goal.returns-in-3

@@ -1,5 +1,4 @@
 -- Node and weight are read at one index, each by `at`.
-use borrow.Author.Rules.{rules}
 use Rattle.quadrature.proofs.rules.point_at.Goals as goal
 
 pub returns : goal.returns

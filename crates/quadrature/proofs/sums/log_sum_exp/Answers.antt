@@ -2,7 +2,6 @@
 use lib.Ieee.{neg}
 use borrow.Author.Tests.{eq-eqb, ne_eqb}
 use Rattle.quadrature.specs.Sums.{log_sum_exp}
-use borrow.Author.Rules.{rules}
 use Rattle.quadrature.proofs.sums.log_sum_exp.Goals as goal
 
 pub returns-then-xs-eq0 : goal.returns-then-xs-eq0

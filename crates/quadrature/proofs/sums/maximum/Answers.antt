@@ -1,10 +1,9 @@
 -- The maximum from m over what is left of the list stays that of the whole list. Assumes nothing.
-use mathlib.Core.Path.{◌≡◌, refl, sym, ap, ◌∙◌}
+use mathlib.Core.Path.{sym, ap, ◌∙◌}
 use mathlib.Core.List.{foldl}
-use Prim.Native.Nat.{◌-◌, ◌+◌}
-use native.Mathlib.Omega.{arith}
+use Prim.Native.Nat.{◌+◌}
 use lib.Ieee.{neg}
-use lib.ListN.{length, drop}
+use lib.ListN.{drop}
 use Rattle.math.specs.Basic.{max_of}
 use Rattle.quadrature.proofs.SumLaws.{foldl_go, foldl_done}
 use Rattle.quadrature.proofs.sums.maximum.Goals as goal

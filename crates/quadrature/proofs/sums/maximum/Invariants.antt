@@ -1,11 +1,8 @@
-use mathlib.Core.Path.{◌≡◌, refl, sym, ap, ◌∙◌}
+use mathlib.Core.Path.{◌≡◌}
 use mathlib.Core.List.{foldl}
-use Prim.Native.Nat.{◌-◌, ◌+◌}
-use native.Mathlib.Omega.{arith}
-use lib.Ieee.{neg}
+use Prim.Native.Nat.{◌-◌}
 use lib.ListN.{length, drop}
 use Rattle.math.specs.Basic.{max_of}
-use Rattle.quadrature.proofs.SumLaws.{foldl_go, foldl_done}
 use Rattle.quadrature.proofs.sums.maximum.Given as goal
 
 abbrev pub invariant-loop-i : goal.invariant-loop-i

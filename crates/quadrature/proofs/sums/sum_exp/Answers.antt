@@ -1,9 +1,8 @@
 -- The sum from s over what is left of the list stays that of the whole list. Assumes nothing.
-use mathlib.Core.Path.{◌≡◌, refl, sym, ap, ◌∙◌}
+use mathlib.Core.Path.{sym, ap, ◌∙◌}
 use mathlib.Core.List.{foldl}
-use Prim.Native.Nat.{◌-◌, ◌+◌}
-use native.Mathlib.Omega.{arith}
-use lib.ListN.{length, drop}
+use Prim.Native.Nat.{◌+◌}
+use lib.ListN.{drop}
 use Rattle.math.specs.Basic.{add}
 use Rattle.quadrature.specs.Sums.{add_exp}
 use Rattle.quadrature.proofs.SumLaws.{foldl_go, foldl_done}

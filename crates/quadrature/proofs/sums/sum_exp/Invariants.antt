@@ -1,11 +1,8 @@
-use mathlib.Core.Path.{◌≡◌, refl, sym, ap, ◌∙◌}
+use mathlib.Core.Path.{◌≡◌}
 use mathlib.Core.List.{foldl}
-use Prim.Native.Nat.{◌-◌, ◌+◌}
-use native.Mathlib.Omega.{arith}
+use Prim.Native.Nat.{◌-◌}
 use lib.ListN.{length, drop}
-use Rattle.math.specs.Basic.{add}
 use Rattle.quadrature.specs.Sums.{add_exp}
-use Rattle.quadrature.proofs.SumLaws.{foldl_go, foldl_done}
 use Rattle.quadrature.proofs.sums.sum_exp.Given as goal
 
 abbrev pub invariant-loop-i : goal.invariant-loop-i

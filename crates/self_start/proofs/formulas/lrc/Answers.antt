@@ -1,6 +1,5 @@
 -- By whether the quotient is finite, and then by the size of xmid.
 use Rattle.self_start.specs.Start.{lrc_of}
-use borrow.Author.Rules.{rules}
 use Rattle.self_start.proofs.formulas.lrc.Goals as goal
 
 pub returns-then-abs : goal.returns-then-abs

@@ -1,6 +1,5 @@
 -- By whether scal is finite, and then by its own size.
 use Rattle.self_start.specs.Start.{scal_of}
-use borrow.Author.Rules.{rules}
 use Rattle.self_start.proofs.formulas.scal_or_one.Goals as goal
 
 pub returns-then-abs : goal.returns-then-abs

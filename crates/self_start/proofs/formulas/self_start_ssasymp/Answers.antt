@@ -1,7 +1,6 @@
 -- By whether there is a point, so that a first dose can be read; range, dose at half the height and rate are the callees'.
 use mathlib.Core.Path.{sym}
 use Rattle.self_start.proofs.Starts.{ssasymp_none, ssasymp_yes}
-use borrow.Author.Rules.{rules}
 use Rattle.self_start.proofs.formulas.self_start_ssasymp.Goals as goal
 
 pub returns-then-x-eq0 : goal.returns-then-x-eq0

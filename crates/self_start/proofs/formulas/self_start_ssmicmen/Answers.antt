@@ -1,7 +1,6 @@
 -- By whether there is a point; then range and dose at half the height are the callees', each held up by `max`.
 use mathlib.Core.Path.{sym}
 use Rattle.self_start.proofs.Starts.{ssmicmen_none, ssmicmen_yes}
-use borrow.Author.Rules.{rules}
 use Rattle.self_start.proofs.formulas.self_start_ssmicmen.Goals as goal
 
 pub returns-then-x-eq0 : goal.returns-then-x-eq0

@@ -1,6 +1,5 @@
 -- By whether the distance, held at 1e-3 or more, is finite.
 use Rattle.self_start.specs.Start.{width_of}
-use borrow.Author.Rules.{rules}
 use Rattle.self_start.proofs.formulas.width.Goals as goal
 
 pub returns-then-is_finite : goal.returns-then-is_finite

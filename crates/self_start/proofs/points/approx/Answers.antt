@@ -1,7 +1,6 @@
 -- `approx` meets its contract: the tests in their order. Assumes nothing.
 use mathlib.Core.Path.{◌∙◌}
 use Rattle.self_start.specs.Sides.{approx_sides}
-use borrow.Author.Rules.{rules}
 use borrow.Author.Tests.{eq-eqb, ne_eqb}
 use Rattle.self_start.proofs.points.approx.Goals as goal
 

@@ -1,7 +1,6 @@
 -- `approx_x_from_y` meets its contract: the points from i on are put to the sides. Assumes nothing.
 use mathlib.Core.Path.{◌≡◌, sym, ap, ◌∙◌}
-use Prim.Native.Nat.{◌≤◌}
-use lib.ListN.{length, drop}
+use lib.ListN.{length}
 use Rattle.sorting.specs.Pairs.{zip}
 use Rattle.self_start.specs.Points.{approx_xfrom_y}
 use Rattle.self_start.specs.Sides.{approx_sides}
@@ -10,7 +9,6 @@ use Rattle.sorting.specs.laws.Sort.{keyed_zip}
 use Rattle.self_start.proofs.SideLaws.{sides_none, sides_more, sides_approx}
 use Rattle.sorting.specs.laws.Zips.{zip_swapped}
 use native.Mathlib.Omega.{arith}
-use borrow.Author.Rules.{rules}
 use Rattle.self_start.proofs.points.approx_x_from_y.Goals as goal
 
 pub loop-i-init : goal.loop-i-init

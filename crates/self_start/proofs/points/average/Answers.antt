@@ -1,16 +1,10 @@
 -- `average` meets its contract: the points written so far, with what the open run and the pairs after it give, are all the points. Assumes nothing.
 use mathlib.Core.Path.{refl, sym, ◌∙◌}
-use mathlib.Core.Logic.{⊎_elim}
 use mathlib.Core.List.{[]}
-use Prim.Native.Nat.{◌-◌, ◌≤◌, ◌<◌}
-use lib.ListN.{length, drop}
 use Rattle.sorting.specs.Pairs.{zip}
-use Rattle.self_start.specs.Points.{run_of, averaged_of}
-use Rattle.sorting.specs.laws.Written.{Written, written_none, written_same, written_more, written_all}
+use Rattle.sorting.specs.laws.Written.{written_none, written_same, written_more, written_all}
 use Rattle.self_start.proofs.PointLoops.{run_near, run_far, run_end, averaged_some, averaged_none}
-use borrow.Author.Rules.{rules}
 use native.Mathlib.Omega.{arith}
-use borrow.Author.Rules.{rules}
 use Rattle.self_start.proofs.points.average.Goals as goal
 use Rattle.self_start.proofs.points.average.Goals.{then-near, else-near}
 
@@ -28,8 +22,8 @@ loop-i-preserved c =
     let f = c.near in
     let v = t.invariant.1.1.1.1 in
     elim c.if-near.branch [
-      | then-near w ↦ rw (w.1, w.2, w.3, w.4, w.5, w.6) (omega arith, (omega arith, (omega arith, (omega arith, written_same v (run_near c.args.x.now c.args.y.now c.requires.y_len.0 t.i p t.xval t.sum t.count (sym f.ensures ∙ w.if-near.true))))))
-      | else-near w ↦ rw (w.2, w.3, w.4, w.5, w.6, w.7, w.1.ensures) (omega arith, (omega arith, (omega arith, (omega arith, written_more _ _ _ v (omega arith) (run_far c.args.x.now c.args.y.now c.requires.y_len.0 t.i p t.xval t.sum t.count (sym f.ensures ∙ w.if-near.false))))))
+      | then-near w ↦ rw (w.u-is, w.v-is, w.xval-is, w.sum-is, w.count-is, w.w-is) (omega arith, (omega arith, (omega arith, (omega arith, written_same v (run_near c.args.x.now c.args.y.now c.requires.y_len.0 t.i p t.xval t.sum t.count (sym f.ensures ∙ w.if-near.true))))))
+      | else-near w ↦ rw (w.u-is, w.v-is, w.xval-is, w.sum-is, w.count-is, w.w-is, w.mean.ensures) (omega arith, (omega arith, (omega arith, (omega arith, written_more _ _ _ v (omega arith) (run_far c.args.x.now c.args.y.now c.requires.y_len.0 t.i p t.xval t.sum t.count (sym f.ensures ∙ w.if-near.false))))))
     ]
 
 pub returns : goal.returns

@@ -1,15 +1,8 @@
-use mathlib.Core.Path.{refl, sym, ◌∙◌}
-use mathlib.Core.Logic.{⊎_elim}
-use mathlib.Core.List.{[]}
 use Prim.Native.Nat.{◌-◌, ◌≤◌, ◌<◌}
 use lib.ListN.{length, drop}
 use Rattle.sorting.specs.Pairs.{zip}
 use Rattle.self_start.specs.Points.{run_of, averaged_of}
-use Rattle.sorting.specs.laws.Written.{Written, written_none, written_same, written_more, written_all}
-use Rattle.self_start.proofs.PointLoops.{run_near, run_far, run_end, averaged_some, averaged_none}
-use borrow.Author.Rules.{rules}
-use native.Mathlib.Omega.{arith}
-use borrow.Author.Rules.{rules}
+use Rattle.sorting.specs.laws.Written.{Written}
 use Rattle.self_start.proofs.points.average.Given as goal
 
 abbrev pub invariant-loop-i : goal.invariant-loop-i

@@ -1,6 +1,5 @@
 -- By whether the two ends are too near for a quotient.
 use Rattle.self_start.specs.Points.{between_of}
-use borrow.Author.Rules.{rules}
 use Rattle.self_start.proofs.points.between.Goals as goal
 
 pub returns-then-abs : goal.returns-then-abs

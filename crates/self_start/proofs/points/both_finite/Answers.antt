@@ -1,5 +1,4 @@
 -- Where the first is not finite the conjunction is false; else the second decides it.
-use borrow.Author.Rules.{rules}
 use Rattle.self_start.proofs.points.both_finite.Goals as goal
 
 pub returns-then-is_finite : goal.returns-then-is_finite

@@ -1,15 +1,8 @@
 -- `finite_pairs` meets its contract: the pairs written so far, with the finite ones of those still to be read, are all the finite ones. Assumes nothing.
 use mathlib.Core.Path.{sym, ◌∙◌}
-use mathlib.Core.Logic.{⊎_elim}
-use Prim.Native.Nat.{◌-◌, ◌≤◌}
-use lib.ListN.{length, drop}
-use Rattle.sorting.specs.Pairs.{zip}
-use Rattle.self_start.specs.Points.{finite_pairs}
-use Rattle.sorting.specs.laws.Written.{Written, written_none, written_same, written_more, written_all}
+use Rattle.sorting.specs.laws.Written.{written_none, written_same, written_more, written_all}
 use Rattle.self_start.proofs.PointLoops.{finite_yes, finite_no, finite_end}
-use borrow.Author.Rules.{rules}
 use native.Mathlib.Omega.{arith}
-use borrow.Author.Rules.{rules}
 use Rattle.self_start.proofs.points.finite_pairs.Goals as goal
 use Rattle.self_start.proofs.points.finite_pairs.Goals.{then-both_finite, else-both_finite}
 
@@ -22,8 +15,8 @@ loop-i-preserved c =
     let p = c.loop-i-test.true in
     let f = c.both_finite in
     elim c.if-both_finite.branch [
-      | then-both_finite w ↦ rw (w.1, w.2, w.3) (omega arith, (omega arith, written_more _ _ _ t.invariant.1.1 (omega arith) (finite_yes c.args.doses.now c.args.grams.now c.requires.grams_len.0 t.i p (sym f.ensures ∙ w.if-both_finite.true))))
-      | else-both_finite w ↦ rw (w.1, w.2, w.3) (omega arith, (omega arith, written_same t.invariant.1.1 (finite_no c.args.doses.now c.args.grams.now c.requires.grams_len.0 t.i p (sym f.ensures ∙ w.if-both_finite.false))))
+      | then-both_finite w ↦ rw (w.x-is, w.y-is, w.n-is) (omega arith, (omega arith, written_more _ _ _ t.invariant.1.1 (omega arith) (finite_yes c.args.doses.now c.args.grams.now c.requires.grams_len.0 t.i p (sym f.ensures ∙ w.if-both_finite.true))))
+      | else-both_finite w ↦ rw (w.x-is, w.y-is, w.n-is) (omega arith, (omega arith, written_same t.invariant.1.1 (finite_no c.args.doses.now c.args.grams.now c.requires.grams_len.0 t.i p (sym f.ensures ∙ w.if-both_finite.false))))
     ]
 
 pub returns : goal.returns

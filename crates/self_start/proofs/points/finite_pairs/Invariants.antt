@@ -1,14 +1,8 @@
-use mathlib.Core.Path.{sym, ◌∙◌}
-use mathlib.Core.Logic.{⊎_elim}
 use Prim.Native.Nat.{◌-◌, ◌≤◌}
 use lib.ListN.{length, drop}
 use Rattle.sorting.specs.Pairs.{zip}
 use Rattle.self_start.specs.Points.{finite_pairs}
-use Rattle.sorting.specs.laws.Written.{Written, written_none, written_same, written_more, written_all}
-use Rattle.self_start.proofs.PointLoops.{finite_yes, finite_no, finite_end}
-use borrow.Author.Rules.{rules}
-use native.Mathlib.Omega.{arith}
-use borrow.Author.Rules.{rules}
+use Rattle.sorting.specs.laws.Written.{Written}
 use Rattle.self_start.proofs.points.finite_pairs.Given as goal
 
 abbrev pub invariant-loop-i : goal.invariant-loop-i

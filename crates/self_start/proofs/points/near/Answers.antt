@@ -1,6 +1,5 @@
 -- The sizes are the callees', and the comparison is the definition's.
 use Rattle.self_start.specs.Points.{near_of}
-use borrow.Author.Rules.{rules}
 use Rattle.self_start.proofs.points.near.Goals as goal
 
 pub returns : goal.returns

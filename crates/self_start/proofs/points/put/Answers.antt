@@ -1,7 +1,6 @@
 -- By the side of the target that the gram is on; each side has its own function.
 use mathlib.Core.Path.{◌∙◌}
 use Rattle.self_start.specs.Sides.{put_of}
-use borrow.Author.Rules.{rules}
 use Rattle.self_start.proofs.points.put.Goals as goal
 
 pub returns-then-gram-y_target : goal.returns-then-gram-y_target

@@ -1,7 +1,6 @@
 -- By whether there is such a point yet, and then by the first and the last of them.
 use mathlib.Core.Path.{◌∙◌}
 use Rattle.self_start.specs.Sides.{put_high}
-use borrow.Author.Rules.{rules}
 use borrow.Author.Tests.{eq-eqb, ne_eqb}
 use Rattle.self_start.proofs.points.put_high.Goals as goal
 

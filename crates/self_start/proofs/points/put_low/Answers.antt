@@ -1,7 +1,6 @@
 -- By whether there is such a point yet, and then whether it is below the new one.
 use mathlib.Core.Path.{◌∙◌}
 use Rattle.self_start.specs.Sides.{put_low}
-use borrow.Author.Rules.{rules}
 use borrow.Author.Tests.{eq-eqb, ne_eqb}
 use Rattle.self_start.proofs.points.put_low.Goals as goal
 

@@ -1,12 +1,8 @@
 -- `range_of` meets its contract: each fold from here on is the whole fold. Assumes nothing.
-use mathlib.Core.Path.{◌≡◌, refl, ◌∙◌}
-use Prim.Native.Nat.{◌-◌, ◌≤◌}
+use mathlib.Core.Path.{refl, ◌∙◌}
 use lib.Ieee.{neg}
-use lib.ListN.{length, drop}
-use Rattle.self_start.specs.Points.{largest_of, smallest_of}
 use Rattle.self_start.proofs.PointLoops.{largest_more, largest_all, smallest_more, smallest_all}
 use native.Mathlib.Omega.{arith}
-use borrow.Author.Rules.{rules}
 use Rattle.self_start.proofs.points.range_of.Goals as goal
 
 pub loop-i-init : goal.loop-i-init

@@ -1,11 +1,7 @@
-use mathlib.Core.Path.{◌≡◌, refl, ◌∙◌}
+use mathlib.Core.Path.{◌≡◌}
 use Prim.Native.Nat.{◌-◌, ◌≤◌}
-use lib.Ieee.{neg}
 use lib.ListN.{length, drop}
 use Rattle.self_start.specs.Points.{largest_of, smallest_of}
-use Rattle.self_start.proofs.PointLoops.{largest_more, largest_all, smallest_more, smallest_all}
-use native.Mathlib.Omega.{arith}
-use borrow.Author.Rules.{rules}
 use Rattle.self_start.proofs.points.range_of.Given as goal
 
 abbrev pub invariant-loop-i : goal.invariant-loop-i

@@ -3,7 +3,6 @@ use mathlib.Core.Path.{refl, sym, ◌∙◌}
 use borrow.Author.Tests.{lt-ltb, le-ltb, le-leb, lt-leb}
 use Rattle.block_solve.specs.Normal.{accumulate_of}
 use Rattle.block_solve.specs.laws.Normal.{accumulate_fits}
-use borrow.Author.Rules.{rules}
 use Rattle.block_solve.proofs.normal.BlockNormal.accumulate.Goals as goal
 
 pub returns-then-group-ge32 : goal.returns-then-group-ge32

@@ -5,7 +5,6 @@ use native.Mathlib.Omega.{arith}
 use borrow.Author.Tests.{le-leb, lt-leb, ne_eqb}
 use Rattle.block_solve.specs.Normal.{prior_of}
 use Rattle.block_solve.specs.laws.Normal.{prior_fits}
-use borrow.Author.Rules.{rules}
 use Rattle.block_solve.proofs.normal.BlockNormal.add_prior.Goals as goal
 
 pub returns-then-k-gt2 : goal.returns-then-k-gt2

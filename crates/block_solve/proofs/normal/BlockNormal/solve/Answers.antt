@@ -6,7 +6,6 @@ use borrow.Author.Tests.{le-leb, lt-leb, ne_eqb}
 use lib.ListN.{length}
 use Rattle.block_solve.specs.Direction.{is_direction, left_in}
 use Rattle.block_solve.specs.laws.Direction.{solve_refuses, solve_fits}
-use borrow.Author.Rules.{rules}
 use Rattle.block_solve.proofs.normal.BlockNormal.solve.Goals as goal
 
 pub returns-then-p-gt4 : goal.returns-then-p-gt4
