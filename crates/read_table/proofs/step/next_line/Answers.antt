@@ -20,18 +20,13 @@ returns c =
     let a = c.args in
     let r = c.least-room.ensures in
     let e = c.moved-m.ensures in
+    let n = e.line_value in
+    let u = r.upper_bound in
     record {
       value = step_progress a.text.now a.p a.doses.now a.grams.now a.groups.now a.names.now _ _ r.value e.value;
       doses_after = c.put_float.ensures ∙ step_doses a.text.now a.p a.doses.now a.grams.now a.groups.now a.names.now _ _ r.value e.value;
       grams_after = c.put_float-2.ensures ∙ step_grams a.text.now a.p a.doses.now a.grams.now a.groups.now a.names.now _ _ r.value e.value;
       groups_after = c.put_whole.ensures ∙ step_groups a.text.now a.p a.doses.now a.grams.now a.groups.now a.names.now _ _ r.value e.value;
-      names_after =
-          step_names a.text.now a.p a.doses.now a.grams.now a.groups.now a.names.now _ _ r.value e.value _ _ c.put_whole-2.ensures c.put_whole-3.ensures;
-      line_value = (
-        e.line_value.0,
-        le_trans e.line_value.1 r.upper_bound.0,
-        le_trans e.line_value.1 r.upper_bound.1,
-        le_trans e.line_value.1 r.upper_bound.2,
-        e.line_value.2,
-      );
+      names_after = step_names a.text.now a.p a.doses.now a.grams.now a.groups.now a.names.now _ _ r.value e.value _ _ c.put_whole-2.ensures c.put_whole-3.ensures;
+      line_value = (n.0, le_trans n.1 u.0, le_trans n.1 u.1, le_trans n.1 u.2, n.2);
     }
