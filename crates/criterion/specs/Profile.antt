@@ -1,7 +1,6 @@
 -- The criterion and sigma2 at what a fit answers (`profile_objective`).
 use Rattle.std.specs.Prelude.{ℕ, Bool, cond, ◌&&◌, List, [], ◌∷◌, eqb, Float, get_or, length}
 use Rattle.std.specs.Float.{nan}
-use Rattle.std.specs.Float.Ieee as Ieee
 use Rattle.math.specs.Basic.{add, sub, mul, div, bits, one, max_of}
 use Rattle.math.specs.Ln.{ln_of}
 use Rattle.curves.specs.MeanFn.{n_params_of}

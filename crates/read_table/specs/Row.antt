@@ -4,7 +4,6 @@ use Rattle.math.specs.Basic.{zero}
 use Rattle.math.specs.Parts.{part}
 use Rattle.read_decimal.specs.Decimal.{decimal_of}
 use Rattle.read_decimal.specs.declared.Decimal.{Decimal}
-use Rattle.read_decimal.specs.declared.Decimal.TheVariants as Decimal
 use Rattle.read_table.specs.Classes.{spaces, a_word, to_quote, to_comment, to_separator, to_letter, a_name, to_comma, meets, scan_of}
 use Rattle.read_table.specs.Header.{in_order}
 use Rattle.read_table.specs.declared.row.Word.{Word}

@@ -1,6 +1,5 @@
 -- Where the fit is refused, so is the criterion; else what the fit wrote is what the definition starts from. Assumes nothing.
 use Rattle.criterion.proofs.Call.{refused_as, done_as, profile_as, sized}
-use borrow.Author.Rules.{rules}
 use Rattle.criterion.proofs.criterion.Goals as goal
 
 pub profile_objective-requires : goal.profile_objective-requires

@@ -1,6 +1,5 @@
 -- A value is read where it stands, and past the end of the list `math::at` gives the NaN that is the definition's default.
 use Rattle.criterion.specs.Profile.{four_of}
-use borrow.Author.Rules.{rules}
 use Rattle.criterion.proofs.four.Goals as goal
 
 pub returns : goal.returns

@@ -1,11 +1,7 @@
 -- What is left from g on, with the total so far, comes to the whole. Assumes nothing.
-use mathlib.Core.Path.{◌≡◌, refl, sym, ◌∙◌}
-use Prim.Native.Nat.{◌-◌, ◌≤◌}
-use Rattle.math.specs.Basic.{zero}
-use Rattle.criterion_agq.specs.Agq.{groups_from}
+use mathlib.Core.Path.{refl, sym, ◌∙◌}
 use Rattle.criterion_groups.proofs.Laws.{lists_at}
 use Rattle.criterion_agq.proofs.Laws.{agq_begins, agq_stop, agq_go, agq_done}
-use borrow.Author.Rules.{rules}
 use native.Mathlib.Omega.{arith}
 use Rattle.criterion_agq.proofs.add_groups.Goals as goal
 

@@ -1,11 +1,7 @@
-use mathlib.Core.Path.{◌≡◌, refl, sym, ◌∙◌}
+use mathlib.Core.Path.{◌≡◌}
 use Prim.Native.Nat.{◌-◌, ◌≤◌}
 use Rattle.math.specs.Basic.{zero}
 use Rattle.criterion_agq.specs.Agq.{groups_from}
-use Rattle.criterion_groups.proofs.Laws.{lists_at}
-use Rattle.criterion_agq.proofs.Laws.{agq_begins, agq_stop, agq_go, agq_done}
-use borrow.Author.Rules.{rules}
-use native.Mathlib.Omega.{arith}
 use Rattle.criterion_agq.proofs.add_groups.Given as goal
 
 abbrev pub invariant-loop-g : goal.invariant-loop-g

@@ -1,7 +1,6 @@
 -- The four entries are the definition's as they stand, and every index is below 2.
 use mathlib.Core.Path.{refl}
 use Rattle.criterion_agq.specs.Agq.{add_quotients}
-use borrow.Author.Rules.{rules}
 use Rattle.criterion_agq.proofs.add_quotients.Goals as goal
 
 pub returns : goal.returns

@@ -2,7 +2,6 @@
 use mathlib.Core.Path.{sym, ap, ◌∙◌}
 use Rattle.criterion_agq.specs.Agq.{by_order, agq_of}
 use Rattle.criterion_agq.proofs.Laws.{order_few}
-use borrow.Author.Rules.{rules}
 use Rattle.criterion_agq.proofs.agq_correction.Goals as goal
 
 pub returns-in_default : goal.returns-in_default

@@ -1,11 +1,8 @@
 -- m is the first block with the quotients of the first i readings added, each from its gradients.
-use mathlib.Core.Path.{◌≡◌, ◌∙◌}
-use Prim.Native.Nat.{◌-◌, ◌≤◌}
-use Rattle.math.specs.Loops.{iter}
+use mathlib.Core.Path.{◌∙◌}
 use Rattle.math.specs.laws.Loops.{iter_none, iter_more, iter_all}
 use lib.ListN.{length}
-use Rattle.criterion_agq.specs.Agq.{curvature_at, curvature_of}
-use borrow.Author.Rules.{rules}
+use Rattle.criterion_agq.specs.Agq.{curvature_of}
 use native.Mathlib.Omega.{arith}
 use Rattle.criterion_agq.proofs.curvature.Goals as goal
 

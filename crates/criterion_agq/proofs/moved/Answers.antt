@@ -1,7 +1,6 @@
 -- By k: the first effect alone, or each by its row of the scaling.
 use borrow.Author.Tests.{eq-eqb, ne_eqb}
 use Rattle.criterion_agq.specs.Agq.{moved_of}
-use borrow.Author.Rules.{rules}
 use Rattle.criterion_agq.proofs.moved.Goals as goal
 
 pub returns-then-k-eq1 : goal.returns-then-k-eq1

@@ -1,7 +1,6 @@
 -- By k; the order is not 0, so t splits into a remainder and a quotient, the two dimensions' nodes.
 use borrow.Author.Tests.{eq-eqb, ne_eqb}
 use Rattle.criterion_agq.specs.Agq.{node_of}
-use borrow.Author.Rules.{rules}
 use Rattle.criterion_agq.proofs.node_at.Goals as goal
 
 pub returns-then-k-eq1 : goal.returns-then-k-eq1

@@ -2,9 +2,7 @@
 use mathlib.Core.Path.{sym, ap, ◌∙◌}
 use borrow.Author.Tests.{eq-eqb, ne_eqb}
 use Rattle.math.specs.laws.Loops.{pick_false}
-use Rattle.linalg.specs.Pair as Pair
 use Rattle.criterion_agq.specs.Agq.{scaling_of, factor_of}
-use borrow.Author.Rules.{rules}
 use Rattle.criterion_agq.proofs.scaling.Goals as goal
 
 pub returns-then-a : goal.returns-then-a

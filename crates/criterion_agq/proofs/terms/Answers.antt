@@ -1,7 +1,6 @@
 -- The first t places hold the terms of the nodes before t. Assumes nothing.
 use mathlib.Core.Path.{◌≡◌, refl, ap, ◌∙◌}
-use Prim.Native.Nat.{◌-◌, ◌≤◌, ◌<◌}
-use Rattle.math.specs.Loops.{iter}
+use Prim.Native.Nat.{◌<◌}
 use Rattle.math.specs.laws.Loops.{iter_none, iter_more}
 use lib.ListN.{length, take, length-set}
 use mathlib.Core.List.{[], ◌∷◌, ◌++◌}

@@ -1,13 +1,9 @@
-use mathlib.Core.Path.{◌≡◌, refl, ap, ◌∙◌}
-use Prim.Native.Nat.{◌-◌, ◌≤◌, ◌<◌}
+use mathlib.Core.Path.{◌≡◌}
+use Prim.Native.Nat.{◌-◌, ◌≤◌}
 use Rattle.math.specs.Loops.{iter}
-use Rattle.math.specs.laws.Loops.{iter_none, iter_more}
-use lib.ListN.{length, take, length-set}
-use mathlib.Core.List.{[], ◌∷◌, ◌++◌}
-use Rattle.criterion_agq.specs.Agq.{more_terms, term_at, terms_of}
-use Rattle.criterion_agq.proofs.Laws.{nodes_few, terms_more}
-use borrow.Author.Rules.{rules}
-use native.Mathlib.Omega.{arith}
+use lib.ListN.{length, take}
+use mathlib.Core.List.{[]}
+use Rattle.criterion_agq.specs.Agq.{more_terms}
 use Rattle.criterion_agq.proofs.terms.Given as goal
 
 abbrev pub invariant-loop-t : goal.invariant-loop-t

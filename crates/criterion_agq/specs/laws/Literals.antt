@@ -3,9 +3,6 @@ use Rattle.std.specs.Prelude.{◌^◌, ◌≡◌, refl, [], ◌∷◌}
 use Rattle.std.specs.Float.Ieee.{neg, round, of_bits}
 use Rattle.math.specs.Basic.{half, two}
 use Rattle.math.specs.Rationals.{over}
-use Rattle.linalg.specs.Pair as Pair
-use Rattle.linalg.specs.declared.pair.Matrix.TheVariants as Matrices
-use Rattle.quadrature.specs.declared.orders.Order.TheVariants as Orders
 use Rattle.criterion_agq.specs.Agq.{epsilon, minus_half, minus_two}
 
 pub constants : epsilon ∷ minus_half ∷ minus_two ∷ [] ≡ over 1 (2 ^ 52) ∷ neg half ∷ neg two ∷ []

@@ -1,7 +1,6 @@
 -- The four sums are the definition's as they stand, and every index is below 2.
 use mathlib.Core.Path.{refl}
 use Rattle.criterion_logdet.specs.LogDet.{add_products}
-use borrow.Author.Rules.{rules}
 use Rattle.criterion_logdet.proofs.add_products.Goals as goal
 
 pub returns : goal.returns

@@ -1,11 +1,8 @@
 -- m is the first block with the products of the first i readings added, in their order.
-use mathlib.Core.Path.{◌≡◌, ◌∙◌}
-use Prim.Native.Nat.{◌-◌, ◌≤◌}
-use Rattle.math.specs.Loops.{iter}
+use mathlib.Core.Path.{◌∙◌}
 use Rattle.math.specs.laws.Loops.{iter_none, iter_more, iter_all}
 use lib.ListN.{length}
-use Rattle.criterion_logdet.specs.LogDet.{block_at, block_of}
-use borrow.Author.Rules.{rules}
+use Rattle.criterion_logdet.specs.LogDet.{block_of}
 use native.Mathlib.Omega.{arith}
 use Rattle.criterion_logdet.proofs.block.Goals as goal
 

@@ -1,11 +1,8 @@
-use mathlib.Core.Path.{◌≡◌, ◌∙◌}
+use mathlib.Core.Path.{◌≡◌}
 use Prim.Native.Nat.{◌-◌, ◌≤◌}
 use Rattle.math.specs.Loops.{iter}
-use Rattle.math.specs.laws.Loops.{iter_none, iter_more, iter_all}
 use lib.ListN.{length}
-use Rattle.criterion_logdet.specs.LogDet.{block_at, block_of}
-use borrow.Author.Rules.{rules}
-use native.Mathlib.Omega.{arith}
+use Rattle.criterion_logdet.specs.LogDet.{block_at}
 use Rattle.criterion_logdet.proofs.block.Given as goal
 
 abbrev pub invariant-loop-i : goal.invariant-loop-i

@@ -1,7 +1,6 @@
 -- By k: the first logarithm, or the second added to it.
 use borrow.Author.Tests.{eq-eqb, ne_eqb}
 use Rattle.criterion_logdet.specs.LogDet.{logs_of}
-use borrow.Author.Rules.{rules}
 use Rattle.criterion_logdet.proofs.diagonal_logs.Goals as goal
 
 pub returns-then-k-eq1 : goal.returns-then-k-eq1

@@ -1,11 +1,10 @@
 -- What is left from g on, with the total so far, comes to the whole. Assumes nothing.
-use mathlib.Core.Path.{◌≡◌, refl, sym, ap, ◌∙◌}
-use Prim.Native.Nat.{◌+◌, ◌-◌, ◌≤◌}
+use mathlib.Core.Path.{refl, sym, ap, ◌∙◌}
+use Prim.Native.Nat.{◌+◌, ◌-◌}
 use Rattle.math.specs.Basic.{add, mul, two}
 use Rattle.criterion_logdet.specs.LogDet.{logdet_from}
 use Rattle.criterion_groups.proofs.Laws.{lists_at}
 use Rattle.criterion_logdet.proofs.Laws.{logdet_begins, logdet_stop, logdet_go, logdet_done}
-use borrow.Author.Rules.{rules}
 use native.Mathlib.Omega.{arith}
 use Rattle.criterion_logdet.proofs.random_effect_logdet.Goals as goal
 

@@ -1,11 +1,6 @@
-use mathlib.Core.Path.{◌≡◌, refl, sym, ap, ◌∙◌}
-use Prim.Native.Nat.{◌+◌, ◌-◌, ◌≤◌}
-use Rattle.math.specs.Basic.{add, mul, two}
+use mathlib.Core.Path.{◌≡◌}
+use Prim.Native.Nat.{◌-◌, ◌≤◌}
 use Rattle.criterion_logdet.specs.LogDet.{logdet_from}
-use Rattle.criterion_groups.proofs.Laws.{lists_at}
-use Rattle.criterion_logdet.proofs.Laws.{logdet_begins, logdet_stop, logdet_go, logdet_done}
-use borrow.Author.Rules.{rules}
-use native.Mathlib.Omega.{arith}
 use Rattle.criterion_logdet.proofs.random_effect_logdet.Given as goal
 
 abbrev pub invariant-loop-g : goal.invariant-loop-g

@@ -3,7 +3,6 @@ use mathlib.Core.Path.{refl}
 use native.Mathlib.Omega.{arith}
 use Rattle.fit_refusals.specs.laws.Valid.{params_few}
 use Rattle.golden.proofs.Call.{asked, taken, few, not_refused, value_as}
-use borrow.Author.Rules.{rules}
 use Rattle.golden.proofs.criterion_at.Goals as goal
 
 pub overflow_mul-n : goal.overflow_mul-n

@@ -2,7 +2,6 @@
 use mathlib.Core.Path.{refl}
 use Rattle.golden.specs.Golden.{is_wide}
 use Rattle.golden.specs.Search.{goes_on}
-use borrow.Author.Rules.{rules}
 use Rattle.golden.proofs.goes_on.Goals as goal
 
 pub returns-then-abs : goal.returns-then-abs

@@ -1,6 +1,5 @@
 -- The root of 5 is the callee's, and the rest is the definition's arithmetic.
 use Rattle.golden.specs.Golden.{factor}
-use borrow.Author.Rules.{rules}
 use Rattle.golden.proofs.golden_factor.Goals as goal
 
 pub returns : goal.returns

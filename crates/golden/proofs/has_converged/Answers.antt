@@ -1,7 +1,6 @@
 -- A bracket that is still wide decides the definition's conjunction; else the criterion's being finite does.
 use mathlib.Core.Path.{refl}
 use Rattle.golden.specs.Golden.{converged_of}
-use borrow.Author.Rules.{rules}
 use Rattle.golden.proofs.has_converged.Goals as goal
 
 pub returns-then-abs : goal.returns-then-abs

@@ -1,6 +1,5 @@
 -- The factor is the callee's, and it divides the width as in the definition.
 use Rattle.golden.specs.Golden.{left_point}
-use borrow.Author.Rules.{rules}
 use Rattle.golden.proofs.left_point.Goals as goal
 
 pub returns : goal.returns

@@ -1,9 +1,8 @@
 -- The narrowings are the definition's, and every theta that is asked is finite. Assumes nothing.
 use mathlib.Core.Path.{sym, ◌∙◌}
-use Prim.Native.Nat.{◌-◌}
 use native.Mathlib.Omega.{arith}
 use Rattle.golden.proofs.Call.{asked}
-use Rattle.golden.proofs.Loop.{Going, left_finite, right_finite, begins, room, new_finite, last_finite, goes, ends}
+use Rattle.golden.proofs.Loop.{left_finite, right_finite, begins, room, new_finite, last_finite, goes, ends}
 use Rattle.golden.proofs.optimize_theta_golden.Goals as goal
 
 pub criterion_at-fc-requires : goal.criterion_at-fc-requires

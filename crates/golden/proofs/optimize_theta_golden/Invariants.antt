@@ -1,8 +1,6 @@
-use mathlib.Core.Path.{sym, ◌∙◌}
 use Prim.Native.Nat.{◌-◌}
-use native.Mathlib.Omega.{arith}
 use Rattle.golden.proofs.Call.{asked}
-use Rattle.golden.proofs.Loop.{Going, left_finite, right_finite, begins, room, new_finite, last_finite, goes, ends}
+use Rattle.golden.proofs.Loop.{Going}
 use Rattle.golden.proofs.optimize_theta_golden.Given as goal
 
 abbrev pub invariant-loop-t : goal.invariant-loop-t

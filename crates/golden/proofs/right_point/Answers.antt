@@ -1,6 +1,5 @@
 -- As for the left point, from the other end.
 use Rattle.golden.specs.Golden.{right_point}
-use borrow.Author.Rules.{rules}
 use Rattle.golden.proofs.right_point.Goals as goal
 
 pub returns : goal.returns

@@ -2,7 +2,6 @@
 use mathlib.Core.Path.{sym, ◌∙◌}
 use Rattle.fit_refusals.specs.laws.Valid.{search_fits}
 use Rattle.golden.proofs.Call.{asked, refused_as, done_as}
-use borrow.Author.Rules.{rules}
 use Rattle.golden.proofs.search.Goals as goal
 
 pub returns-then-fault-ne0 : goal.returns-then-fault-ne0

@@ -1,8 +1,7 @@
 -- The loop's invariant: the lines that are left, from the state reached, give the table. Each line takes one of as many turns as the text has bytes. Assumes nothing.
-use mathlib.Core.Path.{◌≡◌, refl, sym, ap, ◌∙◌}
-use borrow.Author.Rules.{rules}
+use mathlib.Core.Path.{refl, sym, ap, ◌∙◌}
 use native.Mathlib.Omega.{arith}
-use Prim.Native.Nat.{◌+◌, ◌-◌, ◌*◌, ◌≤◌}
+use Prim.Native.Nat.{◌-◌}
 use lib.ListN.{length}
 use Rattle.read_table.specs.Table.{State, state, lines_of, table_of, finish_of}
 use Rattle.read_table.proofs.TableLaws.{going, lines_go, lines_stop, state_step, done_is}
@@ -43,18 +42,18 @@ loop-doses-preserved c =
     let a = c.args in
     let i = l.invariant in
     let e = c.next_line-p.ensures in
-    let b = e.1.1.1.1.1 in
-    let k = c.next_line-p.auto.1.1 in (
+    let b = e.line_value in
+    let k = c.next_line-p.auto in (
       omega (arith, (going (length a.text.now) l.left l.p h).0, b.0, i.0),
-      omega (arith, b.1, k.0),
-      omega (arith, b.2, k.1.0),
-      omega (arith, b.3, k.1.1.0),
-      omega (arith, b.4, k.1.1.1.0),
-      k.0 ∙ i.5,
-      k.1.0 ∙ i.6,
-      k.1.1.0 ∙ i.7,
-      k.1.1.1.0 ∙ i.8,
-      ap (lines_of (l.left - 1) a.text.now) (state_step a.text.now (state l.p l.doses l.grams l.groups l.names) _ _ _ _ _ e.0 e.1.0 e.1.1.0 e.1.1.1.0 e.1.1.1.1.0)
+      omega (arith, b.1, k.doses),
+      omega (arith, b.2, k.grams),
+      omega (arith, b.3, k.groups),
+      omega (arith, b.4, k.names),
+      k.doses ∙ i.5,
+      k.grams ∙ i.6,
+      k.groups ∙ i.7,
+      k.names ∙ i.8,
+      ap (lines_of (l.left - 1) a.text.now) (state_step a.text.now (state l.p l.doses l.grams l.groups l.names) _ _ _ _ _ e.value e.doses_after e.grams_after e.groups_after e.names_after)
           ∙ sym (lines_go a.text.now l.left (state l.p l.doses l.grams l.groups l.names) h)
           ∙ i.9,
     )
@@ -77,13 +76,12 @@ returns c =
     let l = c.loop-doses in
     let a = c.args in
     let i = l.invariant in
-    let t = (sym (lines_stop a.text.now l.left (state l.p l.doses l.grams l.groups l.names) h) ∙ l.invariant.9) in (
-      done_is l.p _ c.last_fault-fault.ensures ∙ ap (λ (s : State). finish_of s.progress) t,
-      (
-        ap (λ (s : State). s.doses) t,
-        (
-          ap (λ (s : State). s.grams) t,
-          (ap (λ (s : State). s.groups) t, (ap (λ (s : State). s.names) t, (omega (arith, i.1, i.5), omega (arith, i.2, i.6), omega (arith, i.3, i.7), omega (arith, i.4, i.8)))),
-        ),
-      ),
-    )
+    let t = (sym (lines_stop a.text.now l.left (state l.p l.doses l.grams l.groups l.names) h) ∙ l.invariant.9) in
+    record {
+      value = done_is l.p _ c.last_fault-fault.ensures ∙ ap (λ (s : State). finish_of s.progress) t;
+      doses_after = ap (λ (s : State). s.doses) t;
+      grams_after = ap (λ (s : State). s.grams) t;
+      groups_after = ap (λ (s : State). s.groups) t;
+      names_after = ap (λ (s : State). s.names) t;
+      count_in_bounds = (omega (arith, i.1, i.5), omega (arith, i.2, i.6), omega (arith, i.3, i.7), omega (arith, i.4, i.8));
+    }

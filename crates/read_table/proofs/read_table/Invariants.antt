@@ -1,10 +1,7 @@
-use mathlib.Core.Path.{◌≡◌, refl, sym, ap, ◌∙◌}
-use borrow.Author.Rules.{rules}
-use native.Mathlib.Omega.{arith}
-use Prim.Native.Nat.{◌+◌, ◌-◌, ◌*◌, ◌≤◌}
+use mathlib.Core.Path.{◌≡◌}
+use Prim.Native.Nat.{◌+◌, ◌*◌, ◌≤◌}
 use lib.ListN.{length}
-use Rattle.read_table.specs.Table.{State, state, lines_of, table_of, finish_of}
-use Rattle.read_table.proofs.TableLaws.{going, lines_go, lines_stop, state_step, done_is}
+use Rattle.read_table.specs.Table.{state, lines_of, table_of}
 use Rattle.read_table.proofs.read_table.Given as goal
 
 abbrev pub invariant-loop-doses : goal.invariant-loop-doses

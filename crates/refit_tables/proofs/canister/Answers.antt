@@ -2,7 +2,6 @@
 use borrow.Author.Tests.{lt-ltb, le-ltb}
 use Rattle.text_buffer.specs.laws.Text.{then}
 use Rattle.refit_tables.specs.Tables.{canister_text}
-use borrow.Author.Rules.{rules}
 use Rattle.refit_tables.proofs.canister.Goals as goal
 
 pub returns-then-g-names : goal.returns-then-g-names

@@ -1,7 +1,6 @@
 -- The canister's name, its effect, its own values and the line's end are one text. Assumes nothing.
 use Rattle.text_buffer.specs.laws.Text.{then}
 use Rattle.refit_tables.specs.Tables.{canister_row}
-use borrow.Author.Rules.{rules}
 use Rattle.refit_tables.proofs.canister_row.Goals as goal
 
 pub returns : goal.returns

@@ -1,12 +1,9 @@
 use mathlib.Core.Path.{◌≡◌}
 use Prim.Native.Nat.{◌≤◌, ◌-◌}
-use native.Mathlib.Omega.{arith}
 use lib.ListN.{length}
 use Rattle.text_buffer.specs.Text.{wrote}
-use Rattle.svg_marks.proofs.Laws.{each_none, each_more, each_all}
 use Rattle.svg_marks.specs.Escape.{each}
 use Rattle.refit_tables.specs.Tables.{canister_row}
-use borrow.Author.Rules.{rules}
 use Rattle.refit_tables.proofs.canister_rows.Given as goal
 
 abbrev pub invariant-loop-g : goal.invariant-loop-g

@@ -1,7 +1,6 @@
 -- The heading, the curve's columns and the rows are one text. Assumes nothing.
 use Rattle.text_buffer.specs.laws.Text.{then}
 use Rattle.refit_tables.specs.Tables.{canisters_text}
-use borrow.Author.Rules.{rules}
 use Rattle.refit_tables.proofs.canisters.Goals as goal
 
 pub returns : goal.returns

@@ -1,7 +1,6 @@
 -- By whether the size is below 1e-5; else one decimal less than for seven digits, and never below 0. Assumes nothing.
 use native.Mathlib.Omega.{arith}
 use Rattle.refit_tables.specs.Tables.{decimals_for}
-use borrow.Author.Rules.{rules}
 use Rattle.refit_tables.proofs.decimals_for.Goals as goal
 
 pub returns-then-size : goal.returns-then-size

@@ -1,5 +1,4 @@
 -- `max` and `abs` promise what the contract says. Assumes nothing.
-use borrow.Author.Rules.{rules}
 use Rattle.refit_tables.proofs.larger.Goals as goal
 
 pub returns : goal.returns

@@ -1,14 +1,8 @@
 -- m is the largest size among the first i. Assumes nothing.
-use mathlib.Core.Path.{◌≡◌, ◌∙◌}
-use Prim.Native.Nat.{◌≤◌, ◌-◌}
+use mathlib.Core.Path.{◌∙◌}
 use native.Mathlib.Omega.{arith}
-use lib.Ieee.{nan}
-use lib.ListN.{length, get_or}
-use Rattle.math.specs.Basic.{abs_of, max_of}
-use Rattle.math.specs.Loops.{span}
 use Rattle.math.specs.laws.Loops.{span_none, span_more, span_all}
 use Rattle.refit_tables.specs.Tables.{largest_of}
-use borrow.Author.Rules.{rules}
 use Rattle.refit_tables.proofs.largest.Goals as goal
 
 pub loop-i-init : goal.loop-i-init

@@ -1,13 +1,9 @@
-use mathlib.Core.Path.{◌≡◌, ◌∙◌}
+use mathlib.Core.Path.{◌≡◌}
 use Prim.Native.Nat.{◌≤◌, ◌-◌}
-use native.Mathlib.Omega.{arith}
 use lib.Ieee.{nan}
 use lib.ListN.{length, get_or}
 use Rattle.math.specs.Basic.{abs_of, max_of}
 use Rattle.math.specs.Loops.{span}
-use Rattle.math.specs.laws.Loops.{span_none, span_more, span_all}
-use Rattle.refit_tables.specs.Tables.{largest_of}
-use borrow.Author.Rules.{rules}
 use Rattle.refit_tables.proofs.largest.Given as goal
 
 abbrev pub invariant-loop-i : goal.invariant-loop-i

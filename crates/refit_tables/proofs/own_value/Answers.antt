@@ -1,7 +1,6 @@
 -- By the effect's place. Assumes nothing.
 use borrow.Author.Tests.{eq-eqb, ne_eqb}
 use Rattle.refit_tables.specs.Tables.{own_text}
-use borrow.Author.Rules.{rules}
 use Rattle.refit_tables.proofs.own_value.Goals as goal
 
 pub returns-then-i-place : goal.returns-then-i-place

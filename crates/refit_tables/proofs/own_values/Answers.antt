@@ -1,12 +1,6 @@
 -- The values before i are written, each by `own_value`. Assumes nothing.
-use mathlib.Core.Path.{◌≡◌}
-use Prim.Native.Nat.{◌≤◌, ◌-◌}
 use native.Mathlib.Omega.{arith}
-use lib.ListN.{length}
-use Rattle.text_buffer.specs.Text.{wrote}
 use Rattle.svg_marks.proofs.Laws.{each_none, each_more, each_all}
-use Rattle.svg_marks.specs.Escape.{each}
-use Rattle.refit_tables.specs.Tables.{own_text}
 use borrow.Author.Rules.{rules}
 use Rattle.refit_tables.proofs.own_values.Goals as goal
 

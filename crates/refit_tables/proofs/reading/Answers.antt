@@ -1,6 +1,5 @@
 -- The dose, what the curve says there and the grams are the definition's, and the row of them is `reading_row`'s. Assumes nothing.
 use Rattle.refit_tables.specs.Tables.{reading_at}
-use borrow.Author.Rules.{rules}
 use Rattle.refit_tables.proofs.reading.Goals as goal
 
 pub returns : goal.returns

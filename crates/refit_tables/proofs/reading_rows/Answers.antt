@@ -1,12 +1,6 @@
 -- The rows of the readings before i are written. Assumes nothing.
-use mathlib.Core.Path.{◌≡◌}
-use Prim.Native.Nat.{◌≤◌, ◌-◌}
 use native.Mathlib.Omega.{arith}
-use lib.ListN.{length, get_or}
-use Rattle.text_buffer.specs.Text.{wrote}
 use Rattle.svg_marks.proofs.Laws.{each_none, each_more, each_all}
-use Rattle.svg_marks.specs.Escape.{each}
-use Rattle.refit_tables.specs.Tables.{reading_at}
 use borrow.Author.Rules.{rules}
 use Rattle.refit_tables.proofs.reading_rows.Goals as goal
 

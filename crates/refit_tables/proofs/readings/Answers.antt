@@ -1,7 +1,6 @@
 -- The decimals are those of the largest gram; the heading and the rows are one text. Assumes nothing.
 use Rattle.text_buffer.specs.laws.Text.{then}
 use Rattle.refit_tables.specs.Tables.{readings_text}
-use borrow.Author.Rules.{rules}
 use Rattle.refit_tables.proofs.readings.Goals as goal
 
 pub returns : goal.returns

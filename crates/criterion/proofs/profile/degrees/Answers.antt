@@ -1,6 +1,5 @@
 -- By whether it is REML; 512 readings and 4 values are within what `count` takes.
 use Rattle.criterion.specs.Profile.{df_of}
-use borrow.Author.Rules.{rules}
 use Rattle.criterion.proofs.profile.degrees.Goals as goal
 
 pub returns-then-reml : goal.returns-then-reml

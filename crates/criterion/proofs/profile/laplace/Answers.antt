@@ -1,6 +1,5 @@
 -- The two tests choose one of the definition's three formulas, of which the third is written out here.
 use Rattle.criterion.specs.Profile.{laplace_of}
-use borrow.Author.Rules.{rules}
 use Rattle.criterion.proofs.profile.laplace.Goals as goal
 
 pub returns-then-scalar : goal.returns-then-scalar

@@ -1,6 +1,5 @@
 -- By the scalar test: the covariance's own determinant, once for each group, or that of the groups' blocks.
 use Rattle.criterion.specs.Profile.{det_of}
-use borrow.Author.Rules.{rules}
 use Rattle.criterion.proofs.profile.logdet.Goals as goal
 
 pub returns-then-scalar : goal.returns-then-scalar

@@ -2,7 +2,6 @@
 use Rattle.fit_step.specs.laws.Sized.{params_most}
 use Rattle.criterion.specs.Profile.{profile_from}
 use native.Mathlib.Omega.{arith}
-use borrow.Author.Rules.{rules}
 use Rattle.criterion.proofs.profile.profile_objective.Goals as goal
 
 pub degrees-df-requires : goal.degrees-df-requires

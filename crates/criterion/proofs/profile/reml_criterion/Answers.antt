@@ -1,5 +1,4 @@
 -- The logarithms and counts are the callees', and what is done with them stands in the definition's order.
-use borrow.Author.Rules.{rules}
 use Rattle.criterion.proofs.profile.reml_criterion.Goals as goal
 
 pub returns : goal.returns

@@ -1,5 +1,4 @@
 -- The sum is the definition's, operation by operation, and REML adds one term to it.
-use borrow.Author.Rules.{rules}
 use Rattle.criterion.proofs.profile.scalar_criterion.Goals as goal
 
 pub returns-then-reml : goal.returns-then-reml

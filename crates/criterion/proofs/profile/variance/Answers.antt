@@ -1,6 +1,5 @@
 -- By the scalar test, which in the definition chooses the numerator; the floor is `max` in both.
 use Rattle.criterion.specs.Profile.{sigma2_of}
-use borrow.Author.Rules.{rules}
 use Rattle.criterion.proofs.profile.variance.Goals as goal
 
 pub returns-then-scalar : goal.returns-then-scalar

@@ -1,7 +1,6 @@
 -- By the correction's case, with the value that it carries.
 use mathlib.Core.Path.{sym, ap}
 use Rattle.criterion.specs.Profile.{corrected}
-use borrow.Author.Rules.{rules}
 use Rattle.criterion.proofs.profile.with_correction.Goals as goal
 
 pub returns-in_default : goal.returns-in_default

@@ -1,3 +1,4 @@
+-- The places of the root found so far, as `proofs/Root.antt` has them; k falls to 0.
 use Rattle.std.proofs.Common.{◌*◌, ◌^◌}
 use Rattle.math.proofs.Root.{Step}
 use Rattle.math.proofs.sqrt.int_root.Given as goal

@@ -1,3 +1,4 @@
+-- p is the i-th power, and no more than 400.
 use mathlib.Core.Path.{◌≡◌}
 use Prim.Native.Nat.{◌-◌, ◌^◌, ◌≤◌}
 use Rattle.quadrature.specs.Orders.{max_points}

@@ -1,3 +1,4 @@
+-- What is left to try from ord gives what all gives from base; ord falls.
 use mathlib.Core.Path.{◌≡◌}
 use Prim.Native.Nat.{◌≤◌}
 use Rattle.quadrature.specs.Orders.{capped, product_of}

@@ -1,3 +1,4 @@
+-- The maximum from m over what is left of the list is that of the whole list.
 use mathlib.Core.Path.{◌≡◌}
 use mathlib.Core.List.{foldl}
 use Prim.Native.Nat.{◌-◌}

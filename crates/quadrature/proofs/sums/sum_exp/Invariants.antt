@@ -1,3 +1,4 @@
+-- The sum from s over what is left of the list is that of the whole list.
 use mathlib.Core.Path.{◌≡◌}
 use mathlib.Core.List.{foldl}
 use Prim.Native.Nat.{◌-◌}

@@ -2,7 +2,6 @@
 use mathlib.Core.Path.{sym, ◌∙◌}
 use borrow.Author.Tests.{eq-eqb, ne_eqb}
 use Rattle.read_table.specs.Classes.{is_name_byte}
-use borrow.Author.Rules.{rules}
 use Rattle.read_table.proofs.classes.is_name_byte.Goals as goal
 
 pub returns-then-is_letter : goal.returns-then-is_letter

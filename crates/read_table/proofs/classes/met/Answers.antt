@@ -1,7 +1,6 @@
 -- Within the text the byte there decides it; past the end no byte stands. Assumes nothing.
 use borrow.Author.Tests.{le-ltb, lt-ltb}
 use Rattle.read_table.specs.Classes.{meets}
-use borrow.Author.Rules.{rules}
 use Rattle.read_table.proofs.classes.met.Goals as goal
 
 pub returns-then-at-text : goal.returns-then-at-text

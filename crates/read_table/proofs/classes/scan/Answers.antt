@@ -1,10 +1,7 @@
 -- The loop's invariant: the run from i on ends where the one from `at` on does. Assumes nothing.
-use Prim.Native.Nat.{◌≤◌, ◌+◌, ◌-◌}
-use mathlib.Core.Path.{◌≡◌, refl, sym, ◌∙◌}
+use mathlib.Core.Path.{refl, sym, ◌∙◌}
 use native.Mathlib.Omega.{arith}
-use borrow.Author.Rules.{rules}
-use lib.ListN.{length, drop}
-use Rattle.read_table.specs.Classes.{count, scan_of}
+use Rattle.read_table.specs.Classes.{scan_of}
 use Rattle.read_table.proofs.Laws.{count_stop, count_more, count_none}
 use Rattle.read_table.proofs.classes.scan.Goals as goal
 

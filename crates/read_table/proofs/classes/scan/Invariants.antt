@@ -1,10 +1,7 @@
 use Prim.Native.Nat.{◌≤◌, ◌+◌, ◌-◌}
-use mathlib.Core.Path.{◌≡◌, refl, sym, ◌∙◌}
-use native.Mathlib.Omega.{arith}
-use borrow.Author.Rules.{rules}
+use mathlib.Core.Path.{◌≡◌}
 use lib.ListN.{length, drop}
-use Rattle.read_table.specs.Classes.{count, scan_of}
-use Rattle.read_table.proofs.Laws.{count_stop, count_more, count_none}
+use Rattle.read_table.specs.Classes.{count}
 use Rattle.read_table.proofs.classes.scan.Given as goal
 
 abbrev pub invariant-loop-i : goal.invariant-loop-i

@@ -3,7 +3,6 @@ use mathlib.Core.Path.{sym, ap, ◌∙◌}
 use mathlib.Core.Bool.{not}
 use borrow.Author.Tests.{ne_eqb}
 use Rattle.read_table.specs.Classes.{stops_at}
-use borrow.Author.Rules.{rules}
 use Rattle.read_table.proofs.classes.stops.Goals as goal
 
 pub returns-then-k-eq0 : goal.returns-then-k-eq0

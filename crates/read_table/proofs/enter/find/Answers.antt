@@ -1,9 +1,6 @@
 -- The loop's invariant: the search from the j-th name on finds what the whole search does. Assumes nothing.
-use Prim.Native.Nat.{◌≤◌, ◌-◌}
-use mathlib.Core.Path.{◌≡◌, sym, ◌∙◌}
+use mathlib.Core.Path.{sym, ◌∙◌}
 use native.Mathlib.Omega.{arith}
-use borrow.Author.Rules.{rules}
-use Rattle.read_table.specs.Table.{find_from, find_of}
 use Rattle.read_table.proofs.Laws.{find_starts, find_stop, find_go, find_done}
 use Rattle.read_table.proofs.enter.find.Goals as goal
 

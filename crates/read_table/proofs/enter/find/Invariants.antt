@@ -1,9 +1,6 @@
 use Prim.Native.Nat.{◌≤◌, ◌-◌}
-use mathlib.Core.Path.{◌≡◌, sym, ◌∙◌}
-use native.Mathlib.Omega.{arith}
-use borrow.Author.Rules.{rules}
+use mathlib.Core.Path.{◌≡◌}
 use Rattle.read_table.specs.Table.{find_from, find_of}
-use Rattle.read_table.proofs.Laws.{find_starts, find_stop, find_go, find_done}
 use Rattle.read_table.proofs.enter.find.Given as goal
 
 abbrev pub invariant-loop-j : goal.invariant-loop-j

@@ -1,6 +1,5 @@
 -- Past the end nothing is put, and so it is in the definition. Assumes nothing.
 use Rattle.read_table.proofs.Laws.{put_here, put_out}
-use borrow.Author.Rules.{rules}
 use Rattle.read_table.proofs.enter.put_float.Goals as goal
 
 pub returns-then-i-list : goal.returns-then-i-list

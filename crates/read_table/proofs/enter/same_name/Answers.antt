@@ -7,7 +7,7 @@ use Rattle.read_table.proofs.enter.same_name.Goals as goal
 
 pub returns-then-to-text : goal.returns-then-to-text
 unfolding same_name
-returns-then-to-text c = rw (le-leb _ _ c.if-from-to.true, le-leb _ _ c.if-to-text.true) (same_bytes_lem _ _ _ c.same.ensures)
+returns-then-to-text c = rw (le-leb _ _ c.if-from-to.true, le-leb _ _ c.if-to-text.true) (same_bytes_lem _ _ _ (search rules))
 
 pub returns-else-to-text : goal.returns-else-to-text
 unfolding same_name

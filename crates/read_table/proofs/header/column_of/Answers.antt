@@ -1,6 +1,5 @@
 -- The letters' end and the number of their word are the definition's. Assumes nothing.
 use Rattle.read_table.proofs.RowLaws.{column_none, column_known}
-use borrow.Author.Rules.{rules}
 use Rattle.read_table.proofs.header.column_of.Goals as goal
 
 pub returns-then-n-eq0 : goal.returns-then-n-eq0

@@ -1,7 +1,6 @@
 -- By whether the field names a column at all, and then which. Assumes nothing.
 use borrow.Author.Tests.{eq-eqb, ne_eqb}
 use Rattle.read_table.specs.Header.{fits_column}
-use borrow.Author.Rules.{rules}
 use Rattle.read_table.proofs.header.fits.Goals as goal
 
 pub returns-then-k-eq0 : goal.returns-then-k-eq0

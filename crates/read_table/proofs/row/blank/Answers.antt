@@ -1,6 +1,5 @@
 -- At the end of the line the disjunction is decided; else the byte there does it. Assumes nothing.
 use borrow.Author.Tests.{eq-eqb, ne_eqb}
-use borrow.Author.Rules.{rules}
 use Rattle.read_table.proofs.row.blank.Goals as goal
 
 pub returns-then-at-line : goal.returns-then-at-line

@@ -2,7 +2,6 @@
 use mathlib.Core.Path.{sym, ◌∙◌}
 use native.Mathlib.Omega.{arith}
 use Rattle.read_table.proofs.RowLaws.{opens, opens_not, nothing_met}
-use borrow.Author.Rules.{rules}
 use Rattle.read_table.proofs.row.closing.Goals as goal
 
 pub returns-then-met : goal.returns-then-met

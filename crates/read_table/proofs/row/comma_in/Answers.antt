@@ -3,7 +3,6 @@ use mathlib.Core.Path.{ap}
 use lib.Dec.{ltb}
 use Prim.Native.Nat.{ℕ}
 use Rattle.read_table.specs.Row.{comma_in}
-use borrow.Author.Rules.{rules}
 use Rattle.read_table.proofs.row.comma_in.Goals as goal
 
 pub returns : goal.returns

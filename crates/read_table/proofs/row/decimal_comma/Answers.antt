@@ -3,7 +3,6 @@ use mathlib.Core.Path.{sym, ap, ◌∙◌}
 use mathlib.Core.Bool.{not}
 use borrow.Author.Tests.{lt-ltb, le-ltb}
 use Rattle.read_table.specs.Row.{decimal_comma}
-use borrow.Author.Rules.{rules}
 use Rattle.read_table.proofs.row.decimal_comma.Goals as goal
 
 pub returns-then-comma_in : goal.returns-then-comma_in

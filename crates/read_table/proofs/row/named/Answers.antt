@@ -3,7 +3,6 @@ use mathlib.Core.Path.{ap}
 use lib.Dec.{leb}
 use borrow.Author.Tests.{lt-ltb, le-ltb, le-leb, lt-leb}
 use Rattle.read_table.specs.Row.{named_of}
-use borrow.Author.Rules.{rules}
 use Rattle.read_table.proofs.row.named.Goals as goal
 
 pub returns-then-stop-start-le32 : goal.returns-then-stop-start-le32

@@ -2,7 +2,6 @@
 use mathlib.Core.Path.{sym, ◌∙◌}
 use native.Mathlib.Omega.{arith}
 use Rattle.read_table.proofs.RowLaws.{next_past, next_here, nothing_met}
-use borrow.Author.Rules.{rules}
 use Rattle.read_table.proofs.row.next_field.Goals as goal
 
 pub returns-then-met : goal.returns-then-met

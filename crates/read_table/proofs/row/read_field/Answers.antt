@@ -1,7 +1,6 @@
 -- Each place comes from the one before it. Assumes nothing.
 use native.Mathlib.Omega.{arith}
 use Rattle.read_table.proofs.RowLaws.{field_is}
-use borrow.Author.Rules.{rules}
 use Rattle.read_table.proofs.row.read_field.Goals as goal
 
 pub returns : goal.returns

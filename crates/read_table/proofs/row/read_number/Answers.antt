@@ -1,7 +1,6 @@
 -- The answer of the decimal is taken apart as the definition does. Assumes nothing.
 use mathlib.Core.Path.{sym, ◌∙◌}
 use Rattle.read_table.specs.Row.{number_of, number_from}
-use borrow.Author.Rules.{rules}
 use Rattle.read_table.proofs.row.read_number.Goals as goal
 
 pub returns-in-Value : goal.returns-in-Value

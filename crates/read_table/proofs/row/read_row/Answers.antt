@@ -1,6 +1,5 @@
 -- Each part comes from the ones before it. Assumes nothing.
 use Rattle.read_table.proofs.RowLaws.{row_is}
-use borrow.Author.Rules.{rules}
 use Rattle.read_table.proofs.row.read_row.Goals as goal
 
 pub returns : goal.returns

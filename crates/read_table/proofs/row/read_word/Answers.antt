@@ -1,7 +1,6 @@
 -- By whether quotes close before the line ends: what stands between them, or the run up to a space or a separator. Assumes nothing.
 use native.Mathlib.Omega.{arith}
 use Rattle.read_table.proofs.RowLaws.{word_quoted, word_bare}
-use borrow.Author.Rules.{rules}
 use Rattle.read_table.proofs.row.read_word.Goals as goal
 
 pub returns-then-close-line : goal.returns-then-close-line

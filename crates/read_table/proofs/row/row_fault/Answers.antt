@@ -1,7 +1,6 @@
 -- The faults are looked for in the definition's order, so at each return those before are excluded. Assumes nothing.
 use borrow.Author.Tests.{eq-eqb, ne_eqb}
 use Rattle.read_table.specs.Row.{fault_of}
-use borrow.Author.Rules.{rules}
 use Rattle.read_table.proofs.row.row_fault.Goals as goal
 
 pub returns-then-comma : goal.returns-then-comma

@@ -2,7 +2,6 @@
 use mathlib.Core.Path.{◌∙◌}
 use native.Mathlib.Omega.{arith}
 use Rattle.read_table.proofs.TableLaws.{entered_old, entered_new, entered_full}
-use borrow.Author.Rules.{rules}
 use Rattle.read_table.proofs.step.entered.Goals as goal
 
 pub returns-then-c-n : goal.returns-then-c-n

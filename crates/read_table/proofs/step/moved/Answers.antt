@@ -3,7 +3,6 @@ use mathlib.Core.Path.{sym, ◌∙◌}
 use native.Mathlib.Omega.{arith}
 use Rattle.read_table.proofs.TableLaws.{moved_is}
 use lib.Seq.{length-take-le}
-use borrow.Author.Rules.{rules}
 use Rattle.read_table.proofs.step.moved.Goals as goal
 
 pub slice_bounds-read_row-end : goal.slice_bounds-read_row-end

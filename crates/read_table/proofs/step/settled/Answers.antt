@@ -2,7 +2,6 @@
 use mathlib.Core.Path.{sym, ◌∙◌}
 use native.Mathlib.Omega.{arith}
 use Rattle.read_table.proofs.TableLaws.{settled_blank, settled_header, settled_fault, settled_entered, settled_full}
-use borrow.Author.Rules.{rules}
 use Rattle.read_table.proofs.step.settled.Goals as goal
 
 pub returns-then-row : goal.returns-then-row

@@ -1,3 +1,4 @@
+-- s has the sides of the points from i on; i falls to 0.
 use mathlib.Core.Path.{◌≡◌}
 use Prim.Native.Nat.{◌≤◌}
 use lib.ListN.{length, drop}

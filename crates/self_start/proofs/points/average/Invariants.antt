@@ -1,3 +1,4 @@
+-- The points written so far, with what the open run and the pairs after it give, are all the points.
 use Prim.Native.Nat.{◌-◌, ◌≤◌, ◌<◌}
 use lib.ListN.{length, drop}
 use Rattle.sorting.specs.Pairs.{zip}

@@ -1,3 +1,4 @@
+-- The pairs written so far, with the finite ones of those still to be read, are all the finite ones.
 use Prim.Native.Nat.{◌-◌, ◌≤◌}
 use lib.ListN.{length, drop}
 use Rattle.sorting.specs.Pairs.{zip}

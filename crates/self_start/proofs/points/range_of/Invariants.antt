@@ -1,3 +1,4 @@
+-- Least and most over what is left of the list, from those so far, are those of the whole list.
 use mathlib.Core.Path.{◌≡◌}
 use Prim.Native.Nat.{◌-◌, ◌≤◌}
 use lib.ListN.{length, drop}
