@@ -1,5 +1,4 @@
 -- By the answer's case, as for the fit. Assumes nothing.
-use borrow.Author.Rules.{rules}
 use Rattle.criterion.specs.Answer.{told}
 use Rattle.kemroul.specs.Boundary.{criterion_left}
 use Rattle.kemroul.proofs.kemroul_criterion.Goals as goal

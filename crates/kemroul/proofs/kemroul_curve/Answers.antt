@@ -1,5 +1,4 @@
 -- By the answer's case: a refusal leaves what stands behind the pointers, a value is written there. Assumes nothing.
-use borrow.Author.Rules.{rules}
 use Rattle.curves.specs.Curve.{told}
 use Rattle.kemroul.specs.Boundary.{handed}
 use Rattle.kemroul.proofs.kemroul_curve.Goals as goal

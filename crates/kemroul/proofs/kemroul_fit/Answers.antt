@@ -1,5 +1,4 @@
 -- By the answer's case: a refusal leaves what stands behind the pointers, a fit is handed over there. Assumes nothing.
-use borrow.Author.Rules.{rules}
 use Rattle.fit.specs.Answer.{told}
 use Rattle.kemroul.specs.Boundary.{fit_left}
 use Rattle.kemroul.proofs.kemroul_fit.Goals as goal

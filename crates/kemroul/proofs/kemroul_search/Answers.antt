@@ -1,5 +1,4 @@
 -- By the answer's case, as for the fit. Assumes nothing.
-use borrow.Author.Rules.{rules}
 use Rattle.golden.specs.Search.{told}
 use Rattle.kemroul.specs.Boundary.{search_left}
 use Rattle.kemroul.proofs.kemroul_search.Goals as goal

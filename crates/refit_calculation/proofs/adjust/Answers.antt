@@ -1,7 +1,6 @@
 -- Each branch by its tests. Assumes nothing.
 use native.Mathlib.Omega.{arith}
 use Rattle.refit_calculation.proofs.Laws.{too_short, scal_turned, scal_kept, lrc_logged, lrc_kept, other_kept}
-use borrow.Author.Rules.{rules}
 use Rattle.refit_calculation.proofs.adjust.Goals as goal
 
 pub returns-then-starts-lt3 : goal.returns-then-starts-lt3

@@ -1,7 +1,6 @@
 -- By the fit's answer, and then the criterion's contract. Assumes nothing.
 use Rattle.fit.specs.Answer.{told}
 use Rattle.refit_calculation.specs.Refit.{with_fit}
-use borrow.Author.Rules.{rules}
 use Rattle.refit_calculation.proofs.at_theta.Goals as goal
 
 pub returns-in-Refused : goal.returns-in-Refused

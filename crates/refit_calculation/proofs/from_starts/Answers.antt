@@ -1,7 +1,6 @@
 -- By the search's answer, and then the contract of what follows at the theta found. Assumes nothing.
 use Rattle.golden.specs.Search.{told}
 use Rattle.refit_calculation.specs.Refit.{with_search}
-use borrow.Author.Rules.{rules}
 use Rattle.refit_calculation.proofs.from_starts.Goals as goal
 
 pub returns-in-Refused : goal.returns-in-Refused

@@ -2,7 +2,6 @@
 use native.Mathlib.Omega.{arith}
 use Rattle.fit_refusals.specs.laws.Valid.{params_few}
 use Rattle.refit_calculation.proofs.Laws.{as_started}
-use borrow.Author.Rules.{rules}
 use Rattle.refit_calculation.proofs.started.Goals as goal
 
 pub slice_bounds-from_starts-end : goal.slice_bounds-from_starts-end

@@ -1,7 +1,6 @@
 -- By the answer's case: a refusal's number is handed on, and else everything is told. Assumes nothing.
 use Rattle.criterion.specs.Answer.{told}
 use Rattle.refit_calculation.specs.Refit.{with_criterion}
-use borrow.Author.Rules.{rules}
 use Rattle.refit_calculation.proofs.with_criterion.Goals as goal
 
 pub returns-in-Refused : goal.returns-in-Refused
