@@ -32,19 +32,23 @@ fn complain<O: Write, E: Write>(to: &mut Ends<O, E>, what: &[u8], words: &[u8]) 
     to.err.write_all(b"\n")
 }
 
-// `refit: `, the file's name and the system's reason in words, without the number that std puts after them.
+// A system's reason in words, without the number that std puts after them.
+fn without_number(reason: &str) -> &str {
+    match reason.split_once(" (os error ") {
+        Some((words, _)) => words,
+        None => reason,
+    }
+}
+
+// `refit: `, the file's name and the system's reason.
 fn fail<R: AllocGlobal, O: Write, E: Write>(
     rt: &R,
     to: &mut Ends<O, E>,
     name: &[u8],
     error: io::Error,
 ) -> io::Result<()> {
-    let text = format!(in rt.alloc(); "{error}")?;
-    let reason = match text.as_str().split_once(" (os error ") {
-        Some((words, _)) => words,
-        None => text.as_str(),
-    };
-    complain(to, name, reason.as_bytes())
+    let reason = format!(in rt.alloc(); "{error}")?;
+    complain(to, name, without_number(reason.as_str()).as_bytes())
 }
 
 fn complain_of_word<O: Write, E: Write>(

@@ -1,11 +1,9 @@
--- The measure is the turns that are left. Assumes nothing.
-use mathlib.Core.Path.{◌≡◌}
-use lib.ListN.{length}
-use borrow.Author.Rules.{rules}
+-- The measure is the turns that are left.
+use Rattle.std.proofs.Common.{◌≡◌, length}
 use Rattle.replay_decimals.proofs.each.Given as goal
 
 abbrev pub invariant-loop-run : goal.invariant-loop-run
-invariant-loop-run l = length l.buf ≡ length l.input
+invariant-loop-run g l = length l.buf ≡ length l.initial.buf
 
 abbrev pub decreases-loop-run : goal.decreases-loop-run
-decreases-loop-run l = l.run.turns
+decreases-loop-run g l = l.run.turns

@@ -1,8 +1,6 @@
 -- Each number begins where the word goes on, or at its end. Assumes nothing.
 use Prim.Native.Nat.{◌-◌, ◌+◌, ◌≤◌}
-use native.Mathlib.Omega.{arith}
 use lib.ListN.{length}
-use borrow.Author.Rules.{rules}
 use Rattle.refit_command.proofs.starts.read_starts.Given as goal
 
 abbrev pub invariant-loop-at : goal.invariant-loop-at

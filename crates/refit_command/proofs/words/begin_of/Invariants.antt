@@ -1,8 +1,6 @@
 -- The places passed are not past the end. Assumes nothing.
 use Prim.Native.Nat.{◌-◌, ◌≤◌}
-use native.Mathlib.Omega.{arith}
 use lib.ListN.{length}
-use borrow.Author.Rules.{rules}
 use Rattle.refit_command.proofs.words.begin_of.Given as goal
 
 abbrev pub invariant-loop-at : goal.invariant-loop-at

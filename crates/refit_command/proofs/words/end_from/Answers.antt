@@ -1,8 +1,5 @@
 -- The places passed are not past the end. Assumes nothing.
-use Prim.Native.Nat.{◌-◌, ◌≤◌}
 use native.Mathlib.Omega.{arith}
-use lib.ListN.{length}
-use borrow.Author.Rules.{rules}
 use Rattle.refit_command.proofs.words.end_from.Goals as goal
 
 pub loop-i-init : goal.loop-i-init

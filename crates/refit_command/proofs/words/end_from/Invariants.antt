@@ -1,7 +1,5 @@
 use Prim.Native.Nat.{◌-◌, ◌≤◌}
-use native.Mathlib.Omega.{arith}
 use lib.ListN.{length}
-use borrow.Author.Rules.{rules}
 use Rattle.refit_command.proofs.words.end_from.Given as goal
 
 abbrev pub invariant-loop-i : goal.invariant-loop-i

@@ -1,8 +1,6 @@
 -- There are no more words than places passed. Assumes nothing.
 use Prim.Native.Nat.{◌-◌, ◌≤◌}
-use native.Mathlib.Omega.{arith}
 use lib.ListN.{length}
-use borrow.Author.Rules.{rules}
 use Rattle.refit_command.proofs.words.options.Given as goal
 
 abbrev pub invariant-loop-at : goal.invariant-loop-at
