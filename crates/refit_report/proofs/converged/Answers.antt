@@ -1,5 +1,4 @@
 -- `either` promises one of the two texts. Assumes nothing.
-use borrow.Author.Rules.{rules}
 use Rattle.refit_report.proofs.converged.Goals as goal
 
 pub returns : goal.returns

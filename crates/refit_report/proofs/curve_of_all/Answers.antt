@@ -1,7 +1,6 @@
 -- The heading and then the values are one text. Assumes nothing.
 use Rattle.text_buffer.specs.laws.Text.{then}
 use Rattle.refit_report.specs.Report.{curve_text}
-use borrow.Author.Rules.{rules}
 use Rattle.refit_report.proofs.curve_of_all.Goals as goal
 
 pub returns : goal.returns

@@ -1,7 +1,6 @@
 -- The filled lines, the spread and whether it converged are one text; the root of sigma2 is the callee's. Assumes nothing.
 use Rattle.text_buffer.specs.laws.Text.{then}
 use Rattle.refit_report.specs.Report.{fit_text}
-use borrow.Author.Rules.{rules}
 use Rattle.refit_report.proofs.fit_of.Goals as goal
 
 pub returns : goal.returns

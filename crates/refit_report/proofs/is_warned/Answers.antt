@@ -1,6 +1,5 @@
 -- Only where there is a fit does the first warning decide the conjunction. Assumes nothing.
 use borrow.Author.Tests.{eq-eqb, ne_eqb}
-use borrow.Author.Rules.{rules}
 use Rattle.refit_report.proofs.is_warned.Goals as goal
 
 pub returns-then-stage-eq0 : goal.returns-then-stage-eq0

@@ -1,7 +1,6 @@
 -- By whether it was adjusted, and the curve. Assumes nothing.
 use Rattle.svg_marks.proofs.Laws.{nothing}
 use Rattle.refit_report.specs.Report.{note_text}
-use borrow.Author.Rules.{rules}
 use Rattle.refit_report.proofs.note.Goals as goal
 
 pub returns-then-adjusted : goal.returns-then-adjusted

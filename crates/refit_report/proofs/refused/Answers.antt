@@ -1,7 +1,6 @@
 -- The stage's word, the number and its meaning, with what stands around them, are one text. Assumes nothing.
 use Rattle.text_buffer.specs.laws.Text.{then}
 use Rattle.refit_report.specs.Report.{refused_text}
-use borrow.Author.Rules.{rules}
 use Rattle.refit_report.proofs.refused.Goals as goal
 
 pub returns : goal.returns

@@ -2,7 +2,6 @@
 use borrow.Author.Tests.{eq-eqb, ne_eqb}
 use Rattle.text_buffer.specs.laws.Text.{then}
 use Rattle.refit_report.specs.Report.{report_text}
-use borrow.Author.Rules.{rules}
 use Rattle.refit_report.proofs.report.Goals as goal
 
 pub returns-then-r-eq1 : goal.returns-then-r-eq1

@@ -3,7 +3,6 @@ use borrow.Author.Tests.{eq-eqb, ne_eqb}
 use Rattle.text_buffer.specs.laws.Text.{then}
 use Rattle.svg_marks.proofs.Laws.{nothing}
 use Rattle.refit_report.specs.Report.{spread_text}
-use borrow.Author.Rules.{rules}
 use Rattle.refit_report.proofs.spread.Goals as goal
 
 pub returns-then-code-eq2 : goal.returns-then-code-eq2

@@ -1,7 +1,6 @@
 -- The heading, the values and the note are one text. Assumes nothing.
 use Rattle.text_buffer.specs.laws.Text.{then}
 use Rattle.refit_report.specs.Report.{starts_text}
-use borrow.Author.Rules.{rules}
 use Rattle.refit_report.proofs.starts_of.Goals as goal
 
 pub returns : goal.returns

@@ -1,7 +1,6 @@
 -- The filled lines and then whether the search converged are one text. Assumes nothing.
 use Rattle.text_buffer.specs.laws.Text.{then}
 use Rattle.refit_report.specs.Report.{theta_text}
-use borrow.Author.Rules.{rules}
 use Rattle.refit_report.proofs.theta_of.Goals as goal
 
 pub returns : goal.returns

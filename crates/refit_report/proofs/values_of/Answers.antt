@@ -1,7 +1,6 @@
 -- Each code has its own arm, with that curve's template; any other is taken for 4 in the definition too. Assumes nothing.
 use borrow.Author.Tests.{ne_eqb}
 use Rattle.refit_report.specs.Report.{values_text}
-use borrow.Author.Rules.{rules}
 use Rattle.refit_report.proofs.values_of.Goals as goal
 
 pub returns-in-1 : goal.returns-in-1

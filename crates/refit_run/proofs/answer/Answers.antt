@@ -1,6 +1,5 @@
 -- The refit, and then what is told of it. Assumes nothing.
 use Rattle.refit_run.specs.Run.{answer_of}
-use borrow.Author.Rules.{rules}
 use Rattle.refit_run.proofs.answer.Goals as goal
 
 pub returns : goal.returns

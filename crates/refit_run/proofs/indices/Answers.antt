@@ -1,9 +1,7 @@
 -- The numbers passed are copied. Assumes nothing.
 use mathlib.Core.Path.{◌≡◌}
-use Prim.Native.Nat.{◌≤◌, ◌-◌}
 use native.Mathlib.Omega.{arith}
-use lib.ListN.{length}
-use lib.Seq.{paste, paste-zero}
+use lib.Seq.{paste-zero}
 use Rattle.refit_run.proofs.Laws.{pasted}
 use borrow.Author.Rules.{rules}
 use Rattle.refit_run.proofs.indices.Goals as goal

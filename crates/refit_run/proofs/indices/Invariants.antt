@@ -1,10 +1,7 @@
 use mathlib.Core.Path.{◌≡◌}
 use Prim.Native.Nat.{◌≤◌, ◌-◌}
-use native.Mathlib.Omega.{arith}
 use lib.ListN.{length}
-use lib.Seq.{paste, paste-zero}
-use Rattle.refit_run.proofs.Laws.{pasted}
-use borrow.Author.Rules.{rules}
+use lib.Seq.{paste}
 use Rattle.refit_run.proofs.indices.Given as goal
 
 abbrev pub invariant-loop-i : goal.invariant-loop-i

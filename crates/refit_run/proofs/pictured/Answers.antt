@@ -1,7 +1,6 @@
 -- By what is asked for and whether there is a fit. Assumes nothing.
 use borrow.Author.Tests.{eq-eqb, ne_eqb}
 use Rattle.refit_run.specs.Run.{pictured_of}
-use borrow.Author.Rules.{rules}
 use Rattle.refit_run.proofs.pictured.Goals as goal
 
 pub returns-then-o-eq0 : goal.returns-then-o-eq0

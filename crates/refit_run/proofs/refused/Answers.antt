@@ -1,5 +1,4 @@
 -- Both places are the start. Assumes nothing.
-use borrow.Author.Rules.{rules}
 use Rattle.refit_run.proofs.refused.Goals as goal
 
 pub returns : goal.returns

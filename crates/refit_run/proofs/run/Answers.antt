@@ -6,7 +6,6 @@ use lib.Seq.{length-take-le}
 use borrow.Author.Tests.{ne_eqb}
 use Rattle.refit_run.proofs.Laws.{few_values, as_run}
 use Rattle.refit_run.specs.Run.{run_of}
-use borrow.Author.Rules.{rules}
 use Rattle.refit_run.proofs.run.Goals as goal
 
 pub returns-then-f-ne0 : goal.returns-then-f-ne0

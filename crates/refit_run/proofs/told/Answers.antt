@@ -1,5 +1,4 @@
 -- The warnings, the report and the picture. Assumes nothing.
-use borrow.Author.Rules.{rules}
 use Rattle.refit_run.proofs.told.Goals as goal
 
 pub returns : goal.returns

@@ -1,14 +1,7 @@
 -- The sum over the readings passed. Assumes nothing.
-use mathlib.Core.Path.{◌≡◌}
-use Prim.Native.Nat.{◌≤◌, ◌-◌}
 use native.Mathlib.Omega.{arith}
-use lib.Ieee.{nan}
-use lib.ListN.{length, get_or}
-use Rattle.math.specs.Basic.{add, sub}
-use Rattle.math.specs.Loops.{span}
 use Rattle.math.specs.laws.Loops.{span_none, span_more, span_all}
-use Rattle.refit_warnings.specs.Warnings.{mean_of, square_of, constant_rss}
-use borrow.Author.Rules.{rules}
+use Rattle.refit_warnings.specs.Warnings.{constant_rss}
 use Rattle.refit_warnings.proofs.constant_rss.Goals as goal
 
 pub loop-i-init : goal.loop-i-init

@@ -1,13 +1,10 @@
 use mathlib.Core.Path.{◌≡◌}
 use Prim.Native.Nat.{◌≤◌, ◌-◌}
-use native.Mathlib.Omega.{arith}
 use lib.Ieee.{nan}
 use lib.ListN.{length, get_or}
 use Rattle.math.specs.Basic.{add, sub}
 use Rattle.math.specs.Loops.{span}
-use Rattle.math.specs.laws.Loops.{span_none, span_more, span_all}
-use Rattle.refit_warnings.specs.Warnings.{mean_of, square_of, constant_rss}
-use borrow.Author.Rules.{rules}
+use Rattle.refit_warnings.specs.Warnings.{mean_of, square_of}
 use Rattle.refit_warnings.proofs.constant_rss.Given as goal
 
 abbrev pub invariant-loop-i : goal.invariant-loop-i

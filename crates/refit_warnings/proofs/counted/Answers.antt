@@ -1,6 +1,5 @@
 -- By whether the dose is new; n is below 2^63, so one more fits. Assumes nothing.
 use native.Mathlib.Omega.{arith}
-use borrow.Author.Rules.{rules}
 use Rattle.refit_warnings.proofs.counted.Goals as goal
 
 pub returns-then-is : goal.returns-then-is

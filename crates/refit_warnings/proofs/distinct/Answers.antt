@@ -1,12 +1,8 @@
 -- The different ones among the doses passed. Assumes nothing.
-use mathlib.Core.Path.{◌≡◌, ◌∙◌}
-use Prim.Native.Nat.{◌≤◌, ◌-◌}
+use mathlib.Core.Path.{◌∙◌}
 use native.Mathlib.Omega.{arith}
-use lib.ListN.{length}
-use Rattle.math.specs.Loops.{span}
 use Rattle.math.specs.laws.Loops.{span_none, span_more, span_all}
-use Rattle.refit_warnings.specs.Warnings.{is_new, counted_of, distinct_of}
-use borrow.Author.Rules.{rules}
+use Rattle.refit_warnings.specs.Warnings.{distinct_of}
 use Rattle.refit_warnings.proofs.distinct.Goals as goal
 
 pub loop-i-init : goal.loop-i-init

@@ -1,11 +1,8 @@
-use mathlib.Core.Path.{◌≡◌, ◌∙◌}
+use mathlib.Core.Path.{◌≡◌}
 use Prim.Native.Nat.{◌≤◌, ◌-◌}
-use native.Mathlib.Omega.{arith}
 use lib.ListN.{length}
 use Rattle.math.specs.Loops.{span}
-use Rattle.math.specs.laws.Loops.{span_none, span_more, span_all}
-use Rattle.refit_warnings.specs.Warnings.{is_new, counted_of, distinct_of}
-use borrow.Author.Rules.{rules}
+use Rattle.refit_warnings.specs.Warnings.{is_new, counted_of}
 use Rattle.refit_warnings.proofs.distinct.Given as goal
 
 abbrev pub invariant-loop-i : goal.invariant-loop-i

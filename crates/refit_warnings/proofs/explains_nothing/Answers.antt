@@ -1,5 +1,4 @@
 -- By the constants' rss. Assumes nothing.
-use borrow.Author.Rules.{rules}
 use Rattle.refit_warnings.proofs.explains_nothing.Goals as goal
 
 pub returns : goal.returns

@@ -5,7 +5,6 @@ use native.Mathlib.Omega.{arith}
 use lib.ListN.{length}
 use borrow.Author.Tests.{lt-ltb, le-ltb}
 use Rattle.refit_warnings.specs.Warnings.{too_few}
-use borrow.Author.Rules.{rules}
 use Rattle.refit_warnings.proofs.few.Goals as goal
 
 pub returns-then-distinct-p : goal.returns-then-distinct-p

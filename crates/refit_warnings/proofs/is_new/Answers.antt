@@ -1,13 +1,12 @@
 -- As long as no dose before j is the same, what is left of the definition's search from j on is the whole of it. Assumes nothing.
 use mathlib.Core.Path.{◌≡◌, sym, ◌∙◌}
 use mathlib.Core.Bool.{true, false}
-use Prim.Native.Nat.{◌≤◌, ◌-◌}
+use Prim.Native.Nat.{◌-◌}
 use native.Mathlib.Omega.{arith}
 use lib.Ieee.{nan, eq}
 use lib.ListN.{get_or}
 use Rattle.math.specs.laws.Loops.{until_stop, until_go, until_done}
-use Rattle.refit_warnings.specs.Warnings.{is_new_from, is_new}
-use borrow.Author.Rules.{rules}
+use Rattle.refit_warnings.specs.Warnings.{is_new_from}
 use Rattle.refit_warnings.proofs.is_new.Goals as goal
 
 pub loop-j-init : goal.loop-j-init

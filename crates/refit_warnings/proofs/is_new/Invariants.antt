@@ -1,12 +1,6 @@
-use mathlib.Core.Path.{◌≡◌, sym, ◌∙◌}
-use mathlib.Core.Bool.{true, false}
+use mathlib.Core.Path.{◌≡◌}
 use Prim.Native.Nat.{◌≤◌, ◌-◌}
-use native.Mathlib.Omega.{arith}
-use lib.Ieee.{nan, eq}
-use lib.ListN.{get_or}
-use Rattle.math.specs.laws.Loops.{until_stop, until_go, until_done}
 use Rattle.refit_warnings.specs.Warnings.{is_new_from, is_new}
-use borrow.Author.Rules.{rules}
 use Rattle.refit_warnings.proofs.is_new.Given as goal
 
 abbrev pub invariant-loop-j : goal.invariant-loop-j

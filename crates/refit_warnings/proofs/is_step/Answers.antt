@@ -1,7 +1,6 @@
 -- By the code: scal is the third value of curve 1 and the fourth of curve 4, and no other curve has one. Assumes nothing.
 use borrow.Author.Tests.{eq-eqb, ne_eqb}
 use Rattle.refit_warnings.specs.Warnings.{is_step}
-use borrow.Author.Rules.{rules}
 use Rattle.refit_warnings.proofs.is_step.Goals as goal
 
 pub returns-then-code-eq1 : goal.returns-then-code-eq1

@@ -1,7 +1,6 @@
 -- By whether the curve has such a value. Assumes nothing.
 use borrow.Author.Tests.{lt-ltb, le-ltb}
 use Rattle.refit_warnings.specs.Warnings.{is_unmoved}
-use borrow.Author.Rules.{rules}
 use Rattle.refit_warnings.proofs.is_unmoved.Goals as goal
 
 pub returns-then-i-values : goal.returns-then-i-values

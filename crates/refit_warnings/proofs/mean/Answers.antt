@@ -1,5 +1,4 @@
 -- The count and the total are `readings_of`'s, and their quotient is the definition's. Assumes nothing.
-use borrow.Author.Rules.{rules}
 use Rattle.refit_warnings.proofs.mean.Goals as goal
 
 pub returns : goal.returns

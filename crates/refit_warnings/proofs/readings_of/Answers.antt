@@ -1,14 +1,8 @@
 -- The sum of the readings passed. Assumes nothing.
-use mathlib.Core.Path.{◌≡◌, ◌∙◌}
-use Prim.Native.Nat.{◌≤◌, ◌-◌}
+use mathlib.Core.Path.{◌∙◌}
 use native.Mathlib.Omega.{arith}
-use lib.Dec.{eqb}
-use lib.Ieee.{nan}
-use lib.ListN.{length, get_or}
-use Rattle.math.specs.Loops.{span}
 use Rattle.math.specs.laws.Loops.{span_none, span_more, span_all}
-use Rattle.refit_warnings.specs.Warnings.{added_of, sum_of}
-use borrow.Author.Rules.{rules}
+use Rattle.refit_warnings.specs.Warnings.{sum_of}
 use Rattle.refit_warnings.proofs.readings_of.Goals as goal
 
 pub loop-i-init : goal.loop-i-init

@@ -1,13 +1,10 @@
-use mathlib.Core.Path.{◌≡◌, ◌∙◌}
+use mathlib.Core.Path.{◌≡◌}
 use Prim.Native.Nat.{◌≤◌, ◌-◌}
-use native.Mathlib.Omega.{arith}
 use lib.Dec.{eqb}
 use lib.Ieee.{nan}
 use lib.ListN.{length, get_or}
 use Rattle.math.specs.Loops.{span}
-use Rattle.math.specs.laws.Loops.{span_none, span_more, span_all}
-use Rattle.refit_warnings.specs.Warnings.{added_of, sum_of}
-use borrow.Author.Rules.{rules}
+use Rattle.refit_warnings.specs.Warnings.{added_of}
 use Rattle.refit_warnings.proofs.readings_of.Given as goal
 
 abbrev pub invariant-loop-i : goal.invariant-loop-i

@@ -1,6 +1,5 @@
 -- Each of the thirteen places is one test, which its callee answers as the definition does. Assumes nothing.
 use Rattle.refit_warnings.specs.Warnings.{warnings_of}
-use borrow.Author.Rules.{rules}
 use Rattle.refit_warnings.proofs.warnings.Goals as goal
 
 pub returns : goal.returns

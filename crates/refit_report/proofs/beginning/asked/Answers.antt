@@ -1,7 +1,6 @@
 -- The counts, the curve, the effect's name and what stands between them are one text. Assumes nothing.
 use Rattle.text_buffer.specs.laws.Text.{then}
 use Rattle.refit_report.specs.Report.{asked_text}
-use borrow.Author.Rules.{rules}
 use Rattle.refit_report.proofs.beginning.asked.Goals as goal
 
 pub returns : goal.returns

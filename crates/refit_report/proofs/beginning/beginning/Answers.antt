@@ -1,7 +1,6 @@
 -- The example's notice, what is asked, the method, the quadrature and the warning are one text, from the buffer's start on. Assumes nothing.
 use Rattle.text_buffer.specs.laws.Text.{then}
 use Rattle.refit_report.specs.Report.{beginning_text}
-use borrow.Author.Rules.{rules}
 use Rattle.refit_report.proofs.beginning.beginning.Goals as goal
 
 pub returns : goal.returns

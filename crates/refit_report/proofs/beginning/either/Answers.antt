@@ -1,5 +1,4 @@
 -- By the test: each branch puts one of the two texts. Assumes nothing.
-use borrow.Author.Rules.{rules}
 use Rattle.refit_report.proofs.beginning.either.Goals as goal
 
 pub returns-then-is : goal.returns-then-is

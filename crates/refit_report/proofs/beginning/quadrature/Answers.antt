@@ -2,7 +2,6 @@
 use borrow.Author.Tests.{lt-ltb, le-ltb}
 use Rattle.svg_marks.proofs.Laws.{nothing}
 use Rattle.refit_report.specs.Report.{quadrature_text}
-use borrow.Author.Rules.{rules}
 use Rattle.refit_report.proofs.beginning.quadrature.Goals as goal
 
 pub returns-then-order-lt2 : goal.returns-then-order-lt2

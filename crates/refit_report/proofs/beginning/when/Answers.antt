@@ -1,6 +1,5 @@
 -- By the test: the text is put, or nothing is written. Assumes nothing.
 use Rattle.svg_marks.proofs.Laws.{nothing}
-use borrow.Author.Rules.{rules}
 use Rattle.refit_report.proofs.beginning.when.Goals as goal
 
 pub returns-then-is : goal.returns-then-is

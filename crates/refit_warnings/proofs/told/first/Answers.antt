@@ -1,11 +1,10 @@
 -- The first from here is the first of all. Assumes nothing.
 use mathlib.Core.Path.{◌≡◌, sym, ap, ◌∙◌}
-use Prim.Native.Nat.{◌≤◌, ◌-◌, ◌+◌}
+use Prim.Native.Nat.{◌-◌, ◌+◌}
 use native.Mathlib.Omega.{arith}
 use lib.ListN.{length}
 use Rattle.math.specs.laws.Loops.{until_stop, until_go, until_done}
-use Rattle.refit_warnings.specs.Told.{first_from, first_of}
-use borrow.Author.Rules.{rules}
+use Rattle.refit_warnings.specs.Told.{first_from}
 use Rattle.refit_warnings.proofs.told.first.Goals as goal
 
 pub loop-k-init : goal.loop-k-init

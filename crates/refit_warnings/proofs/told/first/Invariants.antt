@@ -1,10 +1,7 @@
-use mathlib.Core.Path.{◌≡◌, sym, ap, ◌∙◌}
-use Prim.Native.Nat.{◌≤◌, ◌-◌, ◌+◌}
-use native.Mathlib.Omega.{arith}
+use mathlib.Core.Path.{◌≡◌}
+use Prim.Native.Nat.{◌≤◌, ◌-◌}
 use lib.ListN.{length}
-use Rattle.math.specs.laws.Loops.{until_stop, until_go, until_done}
 use Rattle.refit_warnings.specs.Told.{first_from, first_of}
-use borrow.Author.Rules.{rules}
 use Rattle.refit_warnings.proofs.told.first.Given as goal
 
 abbrev pub invariant-loop-k : goal.invariant-loop-k

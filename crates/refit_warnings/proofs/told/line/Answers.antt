@@ -2,7 +2,6 @@
 use native.Mathlib.Omega.{arith}
 use Rattle.text_buffer.specs.laws.Text.{then}
 use Rattle.refit_warnings.specs.Told.{line_text}
-use borrow.Author.Rules.{rules}
 use Rattle.refit_warnings.proofs.told.line.Goals as goal
 
 pub shape_of-out : goal.shape_of-out

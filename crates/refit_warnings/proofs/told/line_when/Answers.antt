@@ -1,6 +1,5 @@
 -- By whether the warning is given: its line, or nothing. Assumes nothing.
 use Rattle.text_buffer.specs.laws.Text.{stays}
-use borrow.Author.Rules.{rules}
 use Rattle.refit_warnings.proofs.told.line_when.Goals as goal
 
 pub returns-then-is : goal.returns-then-is

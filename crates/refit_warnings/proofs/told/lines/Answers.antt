@@ -1,14 +1,7 @@
 -- The lines of the warnings passed are written. Assumes nothing.
-use mathlib.Core.Path.{◌≡◌}
-use mathlib.Core.Bool.{false, cond}
-use mathlib.Core.List.{[]}
-use Prim.Native.Nat.{◌≤◌, ◌-◌}
 use native.Mathlib.Omega.{arith}
-use lib.ListN.{length, get_or}
-use Rattle.text_buffer.specs.Text.{wrote}
 use Rattle.svg_marks.proofs.Laws.{each_none, each_more, each_all}
-use Rattle.svg_marks.specs.Escape.{each}
-use Rattle.refit_warnings.specs.Told.{line_text, lines_text}
+use Rattle.refit_warnings.specs.Told.{lines_text}
 use borrow.Author.Rules.{rules}
 use Rattle.refit_warnings.proofs.told.lines.Goals as goal
 

@@ -1,7 +1,6 @@
 -- By whether the warning is one of the first four, which are of a value: its name, or nothing. Assumes nothing.
 use borrow.Author.Tests.{lt-ltb, le-ltb}
 use Rattle.text_buffer.specs.laws.Text.{stays}
-use borrow.Author.Rules.{rules}
 use Rattle.refit_warnings.proofs.told.value.Goals as goal
 
 pub returns-then-k-lt4 : goal.returns-then-k-lt4
