@@ -5,6 +5,8 @@
 pub mod starts;
 pub mod words;
 
+ghost use Rattle.std.specs.Prelude.{◌≤◌, length, IfOk};
+
 use crate::starts::{Starts, read_starts};
 use crate::words::{begin_of, end_from};
 use refit_options::options::Options;
@@ -13,7 +15,7 @@ use std::io::{Read, Write};
 use std::rt::Files;
 use std::{fs, io, str};
 
-// Of a file at most so many bytes are read.
+// A file has at most so many bytes.
 const LONGEST: usize = 65536;
 
 // The writers for what is asked for, and for faults.
@@ -104,12 +106,20 @@ fn path(name: &[u8]) -> io::Result<&str> {
     }
 }
 
-// A file's bytes; of one that is longer than is read, one more than that.
-fn read_file<R: Files + AllocGlobal>(rt: &R, name: &[u8]) -> io::Result<Vec<u8>> {
-    let mut text = Vec::new(rt.alloc());
-    let file = fs::open(rt, path(name)?)?;
-    file.take(LONGEST as u64 + 1).read_to_end(&mut text)?;
-    Ok(text)
+// A file's first bytes, as many as there is room for, and how many they are.
+fn read_file<R: Files>(rt: &R, name: &[u8], text: &mut [u8]) -> io::Result<usize>
+    ensures { IfOk result (λ n. n ≤ length text.new) }
+{
+    let mut file = fs::open(rt, path(name)?)?;
+    let mut done = 0usize;
+    while done < text.len() {
+        let n = file.read(&mut text[done..])?;
+        if n == 0 {
+            break;
+        }
+        done += n;
+    }
+    Ok(done)
 }
 
 // The picture, written to the file that was named.
@@ -262,17 +272,18 @@ fn from_file<R: Files + AllocGlobal, O: Write, E: Write>(
     let at = begin_of(words, o.file);
     let end = end_from(words, at, 0);
     let name = &words[at..end];
-    match read_file(rt, name) {
+    let mut text = [0u8; 65537];
+    match read_file(rt, name, &mut text) {
         Err(e) => fail(rt, to, name, e),
-        Ok(text) => {
-            if text.len() > LONGEST {
+        Ok(n) => {
+            if n > LONGEST {
                 return complain(
                     to,
                     name,
                     b"the file is longer than 65536 bytes, or was not read whole",
                 );
             }
-            from_text(rt, to, words, o, given, false, name, text.as_slice())
+            from_text(rt, to, words, o, given, false, name, &text[..n])
         }
     }
 }
