@@ -1,7 +1,6 @@
 -- Both sizes are at most 256, so their product is at most 65,536. Assumes nothing.
 use native.Mathlib.Nat.{mul-le-mul_right}
 use native.Mathlib.Omega.{arith}
-use borrow.Author.Rules.{rules}
 use Rattle.replay_direction.proofs.blocks.product.Goals as goal
 
 pub overflow_mul-result : goal.overflow_mul-result

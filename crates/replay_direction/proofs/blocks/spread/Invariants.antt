@@ -1,7 +1,6 @@
 -- The measure is the places that are left; what the body does keeps their number. Assumes nothing.
 use mathlib.Core.Path.{◌≡◌}
 use Prim.Native.Nat.{◌-◌}
-use borrow.Author.Rules.{rules}
 use lib.ListN.{length}
 use Rattle.replay_direction.proofs.blocks.spread.Given as goal
 

@@ -1,7 +1,6 @@
 -- The list keeps its 520 places. Assumes nothing.
 use mathlib.Core.Path.{◌≡◌}
 use Prim.Native.Nat.{◌-◌}
-use borrow.Author.Rules.{rules}
 use lib.ListN.{length}
 use Rattle.worked_examples.proofs.readings.rising.Given as goal
 
