@@ -350,3 +350,28 @@ pub fn command<R: Files + AllocGlobal, O: Write + Drop, E: Write + Drop>(
     }
     from_file(rt, to, words, o, given)
 }
+
+#[cfg(test)]
+mod tests {
+    use super::*;
+    use std::test::Fail;
+
+    // The name and the system's reason, without the number that std puts after it.
+    #[test]
+    fn tells_of_a_missing_file(rt: HostRuntime) -> Result<(), Fail> {
+        let mut to = Ends {
+            out: Vec::new(rt.alloc()),
+            err: Vec::new(rt.alloc()),
+        };
+        let mut text = [0u8; 16];
+        match read_file(&rt, b"no/such/file", &mut text) {
+            Ok(_) => assert!(rt; false, "a file that is not there was read"),
+            Err(e) => fail(&rt, &mut to, b"no/such/file", e)?,
+        }
+        assert!(rt; to.out.is_empty());
+        assert!(rt;
+            to.err.as_slice() == b"refit: no/such/file: No such file or directory\n".as_slice()
+        );
+        Ok(())
+    }
+}
