@@ -23,6 +23,7 @@ fn wide(b: u8) -> u64
 }
 
 // The value of a digit, `0` to `9` or `a` to `f`; of any other byte 16.
+#[tactic(auto, unfolding(crate::specs::Digits::digit_of))]
 pub fn digit(b: u8) -> u64
     ensures { result ≡ digit_of b }
 {
@@ -53,7 +54,8 @@ pub fn in_base(w: &[u8], base: u64) -> Number
         if base <= d {
             return Number::Fault;
         }
-        if (18446744073709551615 - d) / base < n {
+        let most = (18446744073709551615 - d) / base;
+        if most < n {
             return Number::Fault;
         }
         n = n * base + d;

@@ -9,17 +9,17 @@ returns-then-base-d c =
     let l = c.loop-i in
     bad_digit _ _ l.i l.n _ c.loop-i-test.true c.digit-d.ensures c.if-base-d.true l.invariant.2
 
-pub returns-then-d-base : goal.returns-then-d-base
-returns-then-d-base c =
+pub returns-then-most-n : goal.returns-then-most-n
+returns-then-most-n c =
     let l = c.loop-i in
-    overflow _ _ l.i l.n _ c.loop-i-test.true c.digit-d.ensures c.if-base-d.false (search rules) c.if-d-base.true l.invariant.3
+    overflow _ _ l.i l.n _ c.loop-i-test.true c.digit-d.ensures c.if-base-d.false (search rules) c.if-most-n.true l.invariant.3
 
 pub loop-i-preserved : goal.loop-i-preserved
 loop-i-preserved c =
     let l = c.loop-i in
     let e = c.digit-d.ensures in (
       omega arith,
-      fits_more _ c.args.w.now l.n _ c.if-base-d.false (search rules) c.if-d-base.false,
+      fits_more _ c.args.w.now l.n _ c.if-base-d.false (search rules) c.if-most-n.false,
       digits_more _ _ l.i l.n _ c.loop-i-test.true e c.if-base-d.false l.invariant.2,
       value_more _ _ l.i l.n _ c.loop-i-test.true e l.invariant.3,
     )
