@@ -1,4 +1,4 @@
--- `sqrtOf` at a positive finite argument, by cases: a normal one, and a subnormal one, which 2 ^ 54 makes normal. Assumes nothing.
+-- `sqrt_of` at a positive finite argument, by cases: a normal one, and a subnormal one, which 2 ^ 54 makes normal. Assumes nothing.
 use Rattle.std.proofs.Common.{◌≡◌, ℕ, suc, ◌+◌, ◌-◌, ◌*◌, ◌/◌, ◌^◌, ◌<◌, ◌≤◌, Bool, true, false, cond, T, eqb, ltb, negsuc, refl, le_of_suc-le-suc, mul-pos, lt_of_not-le, arith, ltb→lt, pow_pos, ltb-false, ltb-true, le-ltb, ne_eqb}
 use lib.Ieee.{Float, nan, inf, fin, binary64, fits, up, down, eq, lt, of_bits}
 use lib.Ieee.Fits.{up_pos, mul-fits}

@@ -1,4 +1,4 @@
--- The square root is correctly rounded: for every positive finite x of binary64, subnormal or not, `sqrtOf x` is a value of binary64, and each other value is farther from the real root of x.
+-- The square root is correctly rounded: for every positive finite x of binary64, subnormal or not, `sqrt_of x` is a value of binary64, and each other value is farther from the real root of x.
 -- In units of 2 ^ -1074, x is a, the root that is worked out is b, another value is c, and the real root is √(a * 2 ^ 1074). The middle of b and c, (b + c) / 2, lies on c's side of the real root,
 -- and is never equal to it: there is no tie. Squared and times 4, that compares whole numbers. c = 0 is the value 0, and a negative value is farther still. Assumes nothing.
 use Rattle.std.proofs.Common.{◌≡◌, ℕ, ◌+◌, ◌*◌, ◌^◌, ◌<◌, T, lt_trans, lt_of_lt_of_le, lt_irrefl, add_comm, mul-pos, arith, pow_pos}

@@ -1,4 +1,4 @@
-// The command `refit`: see `refit help`. The work is done by the crate refit_report, on slices; here are the words, the files, and
+// The command `refit`: see `refit help`. The work is done by the crate refit_run, on slices; here are the words, the files, and
 // what is written where.
 #![tactic(auto)]
 

@@ -9,7 +9,7 @@ use borrow.Author.Tests.{lt-ltb, le-ltb, eq-eqb, ne_eqb}
 use Rattle.math.specs.Basic.{add, sub, mul, div, bits, zero, half, one, two, max_of, is_finite}
 use Rattle.math.specs.Ln.{ln_of}
 use Rattle.sorting.specs.Pairs.{Pair, zip, pair_at}
-use Rattle.self_start.specs.Points.{approx_xfrom_y, most_of, least_of}
+use Rattle.self_start.specs.Points.{approx_x_from_y, most_of, least_of}
 use Rattle.self_start.specs.Start.{middle_dose, sslogis_else, sslogis_from, sslogis_start, scal_of, lrc_of, ssasymp_start, ssmicmen_start, width_of, apart_of, ssfpl_else, ssfpl_from, ssfpl_start}
 use Rattle.sorting.specs.laws.Zips.{zip_length, zip_at, zip_seconds}
 
@@ -38,7 +38,7 @@ module _ (xs ys : List Float) (e : length ys ≡ length xs) where
     sslogis_low h g = rw (zip_seconds xs ys e, ← hm, zip_length xs ys e, le-ltb (length xs) 3 l, h, g)
 
     pub sslogis_yes : is_finite m ≡ true → le m zero ≡ false → (x q s : Float)
-        → x ≡ approx_xfrom_y points (div m two) (get_or xs (length xs / 2) nan) → q ≡ approx_xfrom_y points (div m (bits 0x4010_0000_0000_0000)) x → s ≡ scal_of (sub q x)
+        → x ≡ approx_x_from_y points (div m two) (get_or xs (length xs / 2) nan) → q ≡ approx_x_from_y points (div m (bits 0x4010_0000_0000_0000)) x → s ≡ scal_of (sub q x)
         → m ∷ x ∷ s ∷ [] ≡ sslogis_start points
     unfolding sslogis_start sslogis_from
     sslogis_yes h g x q s hx hq hs = rw (middle_of, zip_seconds xs ys e, ← hm, zip_length xs ys e, le-ltb (length xs) 3 l, h, g, ← hx, ← hq, ← hs)
@@ -49,7 +49,7 @@ module _ (xs ys : List Float) (e : length ys ≡ length xs) where
   ssasymp_none v h hv = rw (zip_length xs ys e, eq-eqb (length xs) 0 h, hv)
 
   pub ssasymp_yes : (m r x s : Float) → (length xs ≡ 0 → ⊥) → m ≡ most_of ys → r ≡ least_of ys
-      → x ≡ approx_xfrom_y points (sub m (div (sub m r) two)) (get_or xs 0 nan) → s ≡ lrc_of x → m ∷ r ∷ s ∷ [] ≡ ssasymp_start points
+      → x ≡ approx_x_from_y points (sub m (div (sub m r) two)) (get_or xs 0 nan) → s ≡ lrc_of x → m ∷ r ∷ s ∷ [] ≡ ssasymp_start points
   unfolding ssasymp_start
   ssasymp_yes m r x s h hm hr hx hs = rw (zip_seconds xs ys e, ← hm, ← hr, zip_length xs ys e, ne_eqb (length xs) 0 h, dose_of_lem 0, ← hx, ← hs)
 
@@ -59,7 +59,7 @@ module _ (xs ys : List Float) (e : length ys ≡ length xs) where
   ssmicmen_none h = rw (zip_length xs ys e, eq-eqb (length xs) 0 h)
 
   pub ssmicmen_yes : (m x a b : Float) → (length xs ≡ 0 → ⊥) → m ≡ most_of ys
-      → x ≡ approx_xfrom_y points (div m two) (get_or xs 0 nan) → a ≡ max_of m one → b ≡ max_of x (bits 0x3eb0_c6f7_a0b5_ed8d) → a ∷ b ∷ [] ≡ ssmicmen_start points
+      → x ≡ approx_x_from_y points (div m two) (get_or xs 0 nan) → a ≡ max_of m one → b ≡ max_of x (bits 0x3eb0_c6f7_a0b5_ed8d) → a ∷ b ∷ [] ≡ ssmicmen_start points
   unfolding ssmicmen_start
   ssmicmen_yes m x a b h hm hx ha hb = rw (zip_seconds xs ys e, ← hm, zip_length xs ys e, ne_eqb (length xs) 0 h, dose_of_lem 0, ← hx, ← ha, ← hb)
 
@@ -74,8 +74,8 @@ module _ (xs ys : List Float) (e : length ys ≡ length xs) where
     ssfpl_near h = rw (zip_seconds xs ys e, ← ha, ← hb, zip_length xs ys e, le-ltb (length xs) 4 l, h)
 
     pub ssfpl_yes : apart_of a b ≡ true → (x q s : Float)
-        → x ≡ approx_xfrom_y points (mul half (add a b)) (get_or xs (length xs / 2) nan)
-        → q ≡ approx_xfrom_y points (add a (mul (bits 0x3fd0_0000_0000_0000) (sub b a))) x → s ≡ width_of x q
+        → x ≡ approx_x_from_y points (mul half (add a b)) (get_or xs (length xs / 2) nan)
+        → q ≡ approx_x_from_y points (add a (mul (bits 0x3fd0_0000_0000_0000) (sub b a))) x → s ≡ width_of x q
         → a ∷ b ∷ x ∷ s ∷ [] ≡ ssfpl_start points
     unfolding ssfpl_start ssfpl_from
     ssfpl_yes h x q s hx hq hs = rw (middle_of, zip_seconds xs ys e, ← ha, ← hb, zip_length xs ys e, le-ltb (length xs) 4 l, h, ← hx, ← hq, ← hs)

@@ -60,9 +60,9 @@ approx_of ps xout other =
     (cond (le xout first.0) first.1
     (cond (le last.0 xout) last.1 (window_of first (drop 1 ps) xout))))
 
--- `approx_x_from_y`: the dose at which the points reach yTarget grams. The sort is the same one, by grams
-unfoldable pub approx_xfrom_y : List Pair → Float → Float → Float
-approx_xfrom_y ps yTarget other = approx_of (sort_of (swapped ps)) yTarget other
+-- `approx_x_from_y`: the dose at which the points reach y_target grams. The sort is the same one, by grams
+unfoldable pub approx_x_from_y : List Pair → Float → Float → Float
+approx_x_from_y ps yTarget other = approx_of (sort_of (swapped ps)) yTarget other
 
 -- ---- the folds by `f64::max` and `f64::min`, from the infinities
 

@@ -4,7 +4,7 @@ use Rattle.std.specs.Float.Ieee.{lt, le}
 use Rattle.math.specs.Basic.{add, sub, mul, div, bits, zero, half, one, two, abs_of, max_of, is_finite}
 use Rattle.math.specs.Ln.{ln_of}
 use Rattle.sorting.specs.Pairs.{Pair, pair_at, zip, seconds}
-use Rattle.self_start.specs.Points.{sorted_xy_data, approx_xfrom_y, most_of, least_of}
+use Rattle.self_start.specs.Points.{sorted_xy_data, approx_x_from_y, most_of, least_of}
 use Rattle.self_start.specs.declared.Answer.{Answer}
 use Rattle.self_start.specs.declared.Answer.TheVariants.{Refused, Done}
 
@@ -38,8 +38,8 @@ scal_of scal = cond (is_finite scal) (cond (lt (abs_of scal) tiny) one scal) one
 -- the dose at half of the height, and the dose at a quarter less that: for rising points scal is negative
 unfoldable pub sslogis_from : List Pair → Float → List Float
 sslogis_from ps asym =
-    let xmid = approx_xfrom_y ps (div asym two) (middle_dose ps) in
-    asym ∷ xmid ∷ scal_of (sub (approx_xfrom_y ps (div asym (bits 0x4010_0000_0000_0000)) xmid) xmid) ∷ []
+    let xmid = approx_x_from_y ps (div asym two) (middle_dose ps) in
+    asym ∷ xmid ∷ scal_of (sub (approx_x_from_y ps (div asym (bits 0x4010_0000_0000_0000)) xmid) xmid) ∷ []
 
 unfoldable pub sslogis_start : List Pair → List Float
 sslogis_start ps = cond (ltb (length ps) 3 || (not (is_finite (most ps)) || le (most ps) zero)) sslogis_else (sslogis_from ps (most ps))
@@ -55,7 +55,7 @@ unfoldable pub ssasymp_start : List Pair → List Float
 ssasymp_start ps =
     cond (eqb (length ps) 0)
     (bits 0x4056_8000_0000_0000 ∷ bits 0x4034_0000_0000_0000 ∷ ln_of (bits 0x3fd9_9999_9999_999a) ∷ [])
-    (most ps ∷ least ps ∷ lrc_of (approx_xfrom_y ps (sub (most ps) (div (sub (most ps) (least ps)) two)) (first_dose ps)) ∷ [])
+    (most ps ∷ least ps ∷ lrc_of (approx_x_from_y ps (sub (most ps) (div (sub (most ps) (least ps)) two)) (first_dose ps)) ∷ [])
 
 -- ---- `self_start_ssmicmen`; from none: 10, 1
 
@@ -63,7 +63,7 @@ unfoldable pub ssmicmen_start : List Pair → List Float
 ssmicmen_start ps =
     cond (eqb (length ps) 0)
     (bits 0x4024_0000_0000_0000 ∷ one ∷ [])
-    (max_of (most ps) one ∷ max_of (approx_xfrom_y ps (div (most ps) two) (first_dose ps)) (bits 0x3eb0_c6f7_a0b5_ed8d) ∷ [])
+    (max_of (most ps) one ∷ max_of (approx_x_from_y ps (div (most ps) two) (first_dose ps)) (bits 0x3eb0_c6f7_a0b5_ed8d) ∷ [])
 
 -- ---- `self_start_ssfpl`
 
@@ -82,8 +82,8 @@ width_of xmid xq = let scal = max_of (abs_of (sub xmid xq)) (bits 0x3f50_624d_d2
 -- the doses at a half and at a quarter of the way from a to b
 unfoldable pub ssfpl_from : List Pair → Float → Float → List Float
 ssfpl_from ps a b =
-    let xmid = approx_xfrom_y ps (mul half (add a b)) (middle_dose ps) in
-    a ∷ b ∷ xmid ∷ width_of xmid (approx_xfrom_y ps (add a (mul (bits 0x3fd0_0000_0000_0000) (sub b a))) xmid) ∷ []
+    let xmid = approx_x_from_y ps (mul half (add a b)) (middle_dose ps) in
+    a ∷ b ∷ xmid ∷ width_of xmid (approx_x_from_y ps (add a (mul (bits 0x3fd0_0000_0000_0000) (sub b a))) xmid) ∷ []
 
 unfoldable pub ssfpl_start : List Pair → List Float
 ssfpl_start ps = cond (ltb (length ps) 4 || not (apart_of (least ps) (most ps))) ssfpl_else (ssfpl_from ps (least ps) (most ps))

@@ -11,7 +11,7 @@ use Rattle.fit_faults.specs.Tests.{bad_code, bad_readings, bad_groups, bad_effec
 use Rattle.fit_refusals.specs.Problem.{Problem, problem_of, p, k}
 use Rattle.fit_refusals.specs.Faults.{first_from, refusal_of, search_refusal_of}
 
--- `unfolding refusal-computes` opens all that a refusal is computed by
+-- `unfolding refusal_computes` opens all that a refusal is computed by
 unfoldable pub refusal_computes : Unit {0}
 unfolding n_params_of is_finite lt every in_order bad_code bad_readings bad_groups bad_effects bad_lengths bad_theta bad_numbers bad_order bad_outputs too_many first_from refusal_of search_refusal_of
 refusal_computes = tt

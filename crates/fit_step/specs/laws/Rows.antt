@@ -12,7 +12,7 @@ use Rattle.fit_step.specs.Constants.{1e-2, 1e-4}
 use Rattle.fit_step.specs.Project.{project_of, slot_of, project_groups}
 use Rattle.fit_step.specs.Trial.{on_scal, started, start_from, moved_of, values_tried, effects_tried, tried_from, largest_of, step_of, lambda_of, lowered, raised}
 
--- `unfolding state-computes` opens all that the values of this crate are computed by
+-- `unfolding state_computes` opens all that the values of this crate are computed by
 unfoldable pub state_computes : Unit {0}
 unfolding iter abs_of max_of min_of is_finite Ieee.add Ieee.sub Ieee.mul Ieee.lt Ieee.eq Ieee.is_nan n_params_of each project_of slot_of project_groups on_scal started start_from moved_of values_tried effects_tried tried_from largest_of step_of lambda_of lowered raised
 state_computes = tt

@@ -33,7 +33,7 @@ module _ {A : Type 0} (t : A → Bool) (l : List A) (i : ℕ) where
   unfolding every
   every_done p = rw (drop_of_length-le l p)
 
--- ---- a test that holds exactly of equal lists of bytes is `sameBytes`
+-- ---- a test that holds exactly of equal lists of bytes is `same_bytes`
 
 same_self : (a : List ℕ) → same_bytes a a ≡ true
 unfolding same_lists

@@ -2,7 +2,7 @@
 use mathlib.Core.Path.{◌≡◌, sym, ap, ◌∙◌}
 use lib.ListN.{length}
 use Rattle.sorting.specs.Pairs.{zip}
-use Rattle.self_start.specs.Points.{approx_xfrom_y}
+use Rattle.self_start.specs.Points.{approx_x_from_y}
 use Rattle.self_start.specs.Sides.{approx_sides}
 use Rattle.self_start.specs.laws.Sides.{sides_of}
 use Rattle.sorting.specs.laws.Sort.{keyed_zip}
@@ -26,7 +26,7 @@ loop-i-preserved c =
     (omega arith, c.put-t.ensures ∙ sides_more c.args.y.now c.args.x.now c.requires.even c.args.y_target t.i t.s c.loop-i-test.true (omega (arith, c.requires.even)) t.invariant.1)
 
 pub returns : goal.returns
-unfolding approx_xfrom_y
+unfolding approx_x_from_y
 returns c =
     let x = c.args.x.now in
     let y = c.args.y.now in
