@@ -1,5 +1,5 @@
-"""The last table of docs/WRONG_PROGRAMS.md, which has every wrong program. It is made from the edits: the first line of each, `# ..`, says what the wrong
-program does. The crates stand in the order of crates.txt.
+"""The last table of docs/WRONG_PROGRAMS.md, which has every wrong program. It is made from the edits: the comment at the head of each, `# ..`, says what
+the wrong program does, or what the right one does where it departs. The crates stand in the order of crates.txt.
 
     wrong_programs.py ROOT            whether what stands below the last heading is that table
     wrong_programs.py ROOT --write    writes it there
@@ -15,11 +15,11 @@ HEAD = ["", "| edit | the wrong program |", "|---|---|"]
 
 
 def comment(edit):
-    """What an edit's first line says."""
-    first = edit.read_text(encoding="utf-8").split("\n")[0]
-    if not re.match(r"# [^|]+$", first):
-        sys.exit(f"{edit}: its first line is not a comment that says what the wrong program does")
-    return first[2:]
+    """What an edit's comment at its head says."""
+    lines = list(itertools.takewhile(lambda line: line.startswith("#"), edit.read_text(encoding="utf-8").split("\n")))
+    if not lines or not all(re.match(r"# [^|]+$", line) for line in lines):
+        sys.exit(f"{edit}: it does not begin with a comment that says what the wrong program does")
+    return " ".join(line[2:] for line in lines)
 
 
 def table(root):
