@@ -27,11 +27,12 @@
  * exceptions masked. Calls raise its sticky flags and leave its control alone.
  *
  * Stack, in bytes, the return address with it, without the arguments that the caller passes there: a bound over all
- * paths of the machine code; on the largest inputs as much was measured, for kemroul_start 168 less
- * (2026-11-16, x86-64, kit logic 097e4c862dff5811, gcc 12.2 and glibc 2.36 around it; `make stack` repeats both):
- *   kemroul_search 60,296    kemroul_criterion 59,384    kemroul_fit 41,128    kemroul_start 26,064
- *   kemroul_curve 216    kemroul_sqrt 40    kemroul_exp 8    kemroul_ln 8    kemroul_gh_order 8
- * So 64 KiB are enough for any of them.
+ * paths of the machine code; on the largest inputs as much was measured, for kemroul_start 56 and kemroul_sqrt 8 less
+ * (2026-11-26, x86-64, kit logic dac8208d650f15bf, gcc 12.2 and glibc 2.36 around it; `make stack` repeats both):
+ *   kemroul_search 66,936    kemroul_criterion 66,120    kemroul_fit 47,896    kemroul_start 25,376
+ *   kemroul_curve 248    kemroul_sqrt 32    kemroul_exp 8    kemroul_ln 8    kemroul_gh_order 8
+ * So 66 KiB are enough for any of them, and 64 KiB are not: an archive of the older kit (logic 097e4c862dff5811) needed
+ * at most 60,296 bytes.
  *
  * Time. No time is promised. A fit's grows with its trials times its readings. Proved is that it makes at most 240
  * trials for each round that begins, so at most 240 times max_rounds: 240,000 for the 1,000 rounds that may be allowed.

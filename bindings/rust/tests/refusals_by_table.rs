@@ -5,9 +5,8 @@ mod common;
 
 use common::faults::{self, Call, SOUND, TWO_EFFECTS};
 use common::KEPT;
-use kemroul::{sys, Curve, Effects, Likelihood, Problem, Refusal, Theta};
+use kemroul::{Curve, Effects, Likelihood, Problem, Refusal, Theta};
 use std::collections::BTreeSet;
-use std::ptr::null;
 
 /// The call in the types. They leave out a wrong code and other numbers of effects or thetas; nan_places.rs has those.
 fn typed(c: &Call) -> Option<(Problem<'static>, Theta)> {
@@ -118,26 +117,4 @@ fn the_limits_are_taken() {
     let (problem, theta) = typed(&TWO_EFFECTS).unwrap();
     let (mut values, mut effects) = ([0.0; 2], [0.0; 64]);
     assert!(problem.fit(&theta, 1000, &mut values, &mut effects).is_ok());
-}
-
-#[test]
-fn texts_and_numbers() {
-    for (i, refusal) in Refusal::ALL.into_iter().enumerate() {
-        assert_eq!(refusal.number(), i as u64 + 1);
-        let text = refusal.to_string();
-        assert!(
-            text.starts_with(&format!("refused with {}: ", i + 1)) && text.len() > 30,
-            "{text}"
-        );
-    }
-    let error: Box<dyn std::error::Error> = Box::new(Refusal::Limits);
-    assert!(error.to_string().contains("over 1,000 rounds"));
-}
-
-#[test]
-fn an_empty_list_may_be_null() {
-    let mut values = [KEPT; 2];
-    // Sound: two lists of no elements, and one of two.
-    let number = unsafe { sys::kemroul_start(3, null(), 0, null(), 0, values.as_mut_ptr(), 2) };
-    assert_eq!((number, values), (0, [10.0, 1.0]));
 }
