@@ -35,18 +35,21 @@ impl BlockNormal {
     fn eliminate_groups(&self, shape: Shape, damping: f64) -> Option<Eliminated>
         ensures { result ≡ eliminated_of self.now shape.p shape.k shape.groups damping }
     {
-        let mut s = self.damped_fixed(shape.p, damping);
-        let mut solved = [Solution {
+        let none = Solution {
             pair: (0.0, 0.0),
             columns: [(0.0, 0.0); 4],
-        }; 32];
+        };
+        let mut e = Eliminated {
+            s: self.damped_fixed(shape.p, damping),
+            solved: [none; 32],
+        };
         for g in 0..shape.groups {
             let group = Group::new(&self.random, &self.cross, &self.random_rhs, g, damping);
             let solution = group.solve(shape)?;
-            group.reduce(&mut s, shape, &solution);
-            solved[g] = solution;
+            group.reduce(&mut e.s, shape, &solution);
+            e.solved[g] = solution;
         }
-        Some(Eliminated { s, solved })
+        Some(e)
     }
 
     fn direction(&self, shape: Shape, damping: f64, out: &mut [f64]) -> bool
