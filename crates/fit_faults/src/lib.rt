@@ -63,22 +63,25 @@ pub fn in_order(lower: &[f64], upper: &[f64]) -> bool
 pub fn bad_readings(doses: usize, grams: usize, group: usize) -> bool
     ensures { result ≡ bad_readings doses grams group }
 {
-    doses < 1 || doses > MAX_READINGS || grams != doses || group != doses
+    doses == 0 || doses > MAX_READINGS || grams != doses || group != doses
 }
 
 #[tactic(auto, unfolding(crate::specs::Tests::bad_groups))]
 pub fn bad_groups(groups: usize) -> bool
     ensures { result ≡ bad_groups groups }
 {
-    groups < 1 || groups > MAX_GROUPS
+    groups == 0 || groups > MAX_GROUPS
 }
 
 #[tactic(auto, unfolding(crate::specs::Tests::bad_effects))]
 pub fn bad_effects(p: usize, effects: &[usize]) -> bool
     ensures { result ≡ bad_effects p effects.now }
 {
-    let n = effects.len();
-    n < 1 || n > 2 || !all_below(effects, p) || (n == 2 && effects[0] == effects[1])
+    match effects {
+        [_] => !all_below(effects, p),
+        [a, b] => a == b || !all_below(effects, p),
+        _ => true,
+    }
 }
 
 #[tactic(auto, unfolding(crate::specs::Tests::bad_lengths))]
