@@ -1,28 +1,25 @@
--- The effects not yet added, from r on, bring the values reached so far to the same values at every turn. Assumes nothing.
-use mathlib.Core.Path.{refl, ◌∙◌}
-use lib.ListN.{drop}
-use native.Mathlib.Omega.{arith}
-use Rattle.curves.proofs.Laws.{effective_more, effective_done, effective_short}
+-- An effect more is added to its value, or to none where its index is past the fourth; at the end one of the two lists has nothing left. Assumes nothing.
+use Rattle.std.proofs.Common.{ap, sym, ◌∙◌, List, Float, inl, inr, arith}
+use Rattle.std.proofs.lemmas.List.{length-set, set_past}
+use Rattle.curves.specs.MeanFn.{effective_of}
+use Rattle.curves.proofs.Laws.{effective_more, effective_none, effective_short}
 use Rattle.curves.proofs.mean_fn.effective.Goals as goal
 
-pub loop-r-init : goal.loop-r-init
-loop-r-init c = (omega arith, refl)
+pub loop-i-preserved-then-i-lt4 : goal.loop-i-preserved-then-i-lt4
+loop-i-preserved-then-i-lt4 c =
+    let step = c.in-Some.ensures.steps in
+    (length-set c.loop-i.v _ _ ∙ c.loop-i.invariant.0, effective_more c.loop-i.v step.0 step.1 ∙ c.loop-i.invariant.1)
 
-pub returns-then-r-offsets : goal.returns-then-r-offsets
-returns-then-r-offsets c =
-    let a = c.args in
-    let l = c.loop-r in
-    effective_short (drop l.r a.indices.now) a.offsets.now l.v l.r c.if-r-offsets.true ∙ l.invariant.1
-
-pub loop-r-preserved : goal.loop-r-preserved
-loop-r-preserved c =
-    let a = c.args in
-    let l = c.loop-r in
-    let more = effective_more a.indices.now a.offsets.now l.v l.r c.loop-r-test.true c.if-r-offsets.false in
-    (omega arith, rw c.add_at-w.ensures more ∙ l.invariant.1)
+pub loop-i-preserved : goal.loop-i-preserved
+loop-i-preserved c =
+    let step = c.in-Some.ensures.steps in
+    let left = c.next.new.self in
+    let same = set_past c.loop-i.v _ _ (omega arith) in
+    (c.loop-i.invariant.0, ap (λ (v : List Float). effective_of left.a.rest.now left.b.rest.now v) (sym same) ∙ effective_more c.loop-i.v step.0 step.1 ∙ c.loop-i.invariant.1)
 
 pub returns : goal.returns
 returns c =
-    let a = c.args in
-    let l = c.loop-r in
-    effective_done a.indices.now a.offsets.now l.v l.r c.loop-r-test.false ∙ l.invariant.1
+    elim c.in-None.ensures.steps [
+      | inl w ↦ sym (effective_none _ _ _ w.1.0) ∙ c.loop-i.invariant.1
+      | inr w ↦ sym (effective_short _ _ _ w.1.0) ∙ c.loop-i.invariant.1
+    ]
