@@ -42,8 +42,8 @@ impl Curve {
         ensures { result ≡ n_params_of (code_of self) }
     {
         match self {
-            Curve::Ssmicmen => 2,
             Curve::Sslogis | Curve::Ssasymp => 3,
+            Curve::Ssmicmen => 2,
             Curve::Ssfpl => 4,
         }
     }
@@ -88,6 +88,7 @@ impl Curve {
 }
 
 // The values with each effect added at its index; an index past the fourth value adds nothing.
+#[tactic(auto, using(crate::proofs::Laws::effective_none, crate::proofs::Laws::effective_short, std::proofs::lemmas::List::set_past), unfolding(crate::specs::MeanFn::effective_of))]
 fn effective(params: [f64; 4], indices: &[usize], offsets: &[f64]) -> [f64; 4]
     ensures { result ≡ effective_of indices.now offsets.now params }
 {
