@@ -1,15 +1,22 @@
--- The first of two lists of faults. Assumes nothing.
+-- Codes, numbers, and the first of two lists of faults. Assumes nothing.
+use Prim.Native.Nat.{ℕ, suc, ◌+◌, ◌≤◌, ◌<◌}
 use mathlib.Core.Path.{◌≡◌, refl}
-use mathlib.Core.Bool.{false}
+use mathlib.Core.Bool.{Bool, true, false, cond, ◌||◌}
+use mathlib.Core.List.{List, [], ◌∷◌, ◌++◌}
+use native.Mathlib.Nat.{add-zero, zero-lt-suc}
+use native.Mathlib.Omega.{arith}
+use borrow.Author.Tests.{ne_eqb}
+use lib.Dec.{eqb}
+use lib.ListN.{length}
 use Rattle.refusal.specs.declared.Refusal.{Refusal}
 use Rattle.refusal.specs.declared.Refusal.TheVariants.{Code, Readings, Groups, Group, Effects, Lengths, Numbers, Bounds, Outputs, Limits}
 use Rattle.refusal.specs.Refusal.{number_of}
-use Prim.Native.Nat.{◌≤◌}
-use native.Mathlib.Omega.{arith}
 use Rattle.curves.specs.declared.mean_fn.Curve.{Curve}
 use Rattle.curves.specs.declared.mean_fn.Curve.TheVariants.{Sslogis, Ssasymp, Ssmicmen, Ssfpl}
 use Rattle.curves.specs.MeanFn.{code_of}
-use Rattle.fit_faults.specs.Tests.{bad_code}
+use Rattle.fit_faults.specs.Tests.{bad_code, bad_outputs, too_many}
+use Rattle.fit_refusals.specs.Problem.{Problem, p, k}
+use Rattle.fit_refusals.specs.Faults.{first_from, first_eight, first_of_eight, refusal_of, search_refusal_of}
 
 -- every curve has a code
 pub known : (c : Curve) → bad_code (code_of c) ≡ false
@@ -31,3 +38,27 @@ numbered Numbers = omega arith
 numbered Bounds = omega arith
 numbered Outputs = omega arith
 numbered Limits = omega arith
+
+-- the first fault of a list, or of the one after it
+abbrev then_later : ℕ → ℕ → ℕ
+then_later n m = cond (eqb n 0) m n
+
+first_then : (i : ℕ) (a b : List Bool) → 0 < i → first_from i (a ++ b) ≡ then_later (first_from i a) (first_from (i + length a) b)
+unfolding first_from
+first_then i [] b h = rw (add-zero i)
+first_then i (true ∷ a) b h = let e : eqb i 0 ≡ false = ne_eqb i 0 (λ z. none z h) in rw e
+  where
+    none : i ≡ 0 → 0 < i → ⊥
+    none z h = omega arith
+first_then i (false ∷ a) b h = let e : i + suc (length a) ≡ suc i + length a = omega arith in rw e (first_then (suc i) a b (zero-lt-suc i))
+
+module _ (q : Problem) where
+  pub fit_split : (values effects rounds : ℕ) → refusal_of q values effects rounds
+      ≡ then_later (first_of_eight q true) (cond (bad_outputs (p q) q.groups (k q) values effects) 9 (cond (too_many rounds) 10 0))
+  unfolding refusal_of first_of_eight first_from
+  fit_split values effects rounds = first_then 1 (first_eight q true) (bad_outputs (p q) q.groups (k q) values effects ∷ too_many rounds ∷ []) (zero-lt-suc 0)
+
+  pub search_split : (rounds narrowings : ℕ) → search_refusal_of q rounds narrowings
+      ≡ then_later (first_of_eight q false) (cond (too_many rounds || eqb (k q) 2 || too_many narrowings) 10 0)
+  unfolding search_refusal_of first_of_eight first_from
+  search_split rounds narrowings = first_then 1 (first_eight q false) (false ∷ (too_many rounds || eqb (k q) 2 || too_many narrowings) ∷ []) (zero-lt-suc 0)

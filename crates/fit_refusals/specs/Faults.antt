@@ -68,3 +68,7 @@ refusal_of q values effects rounds = first_from 1 (early q ++ fit_later q values
 -- what a search refuses with
 unfoldable pub search_refusal_of : Problem → ℕ → ℕ → ℕ
 search_refusal_of q rounds narrowings = first_from 1 (early q ++ search_later q rounds narrowings)
+
+-- the first of 1 to 8
+unfoldable pub first_of_eight : Problem → Bool → ℕ
+first_of_eight q reads_theta = first_from 1 (first_eight q reads_theta)

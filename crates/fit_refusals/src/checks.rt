@@ -1,7 +1,7 @@
 // A problem's first fault, by rising number.
 ghost use Rattle.std.specs.Prelude.{◌≡◌, IfOk};
 ghost use Rattle.fit_refusals.specs.Given.{given, checked, number_in};
-ghost use Rattle.fit_refusals.specs.Faults.{first_eight, first_from, refusal_of, search_refusal_of};
+ghost use Rattle.fit_refusals.specs.Faults.{first_of_eight, refusal_of, search_refusal_of};
 ghost use Rattle.fit_refusals.specs.Valid.{ValidFit, ValidSearch};
 
 use crate::{NlmmProblem, Problem};
@@ -14,9 +14,9 @@ use refusal::Refusal;
 
 impl<'a> Problem<'a> {
     // 1 to 8; those of theta where it is read.
-    #[tactic(auto, using(crate::proofs::Laws::known), unfolding(crate::specs::Faults::first_from, fit_faults::specs::Tests::bad_code))]
+    #[tactic(auto, using(crate::proofs::Laws::known), unfolding(crate::specs::Faults::first_from, crate::specs::Faults::first_of_eight, fit_faults::specs::Tests::bad_code))]
     fn first_eight(&self, reads_theta: bool) -> Result<NlmmProblem<'a>, Refusal>
-        ensures number { number_in result ≡ first_from 1 (first_eight (given self.now) reads_theta) }
+        ensures number { number_in result ≡ first_of_eight (given self.now) reads_theta }
         ensures same { IfOk result (λ q. checked q ≡ given self.now) }
     {
         let curve = Curve::try_from(self.code)?;
@@ -79,7 +79,7 @@ impl<'a> Problem<'a> {
         })
     }
 
-    #[tactic(auto, using(crate::proofs::Laws::numbered), unfolding(crate::specs::Faults::first_from, crate::specs::Faults::refusal_of))]
+    #[tactic(auto, using(crate::proofs::Laws::numbered, crate::proofs::Laws::fit_split))]
     // The problem of a fit or a criterion, with output lists of n_values and n_effects_out places.
     pub fn for_fit(
         &self,
@@ -102,7 +102,7 @@ impl<'a> Problem<'a> {
         Ok(problem)
     }
 
-    #[tactic(auto, using(crate::proofs::Laws::numbered), unfolding(crate::specs::Faults::first_from, crate::specs::Faults::search_refusal_of))]
+    #[tactic(auto, using(crate::proofs::Laws::numbered, crate::proofs::Laws::search_split))]
     // The problem of a search, which finds a theta for one effect, and writes no list.
     pub fn for_search(
         &self,

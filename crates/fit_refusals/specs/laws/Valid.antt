@@ -8,7 +8,6 @@ use Rattle.std.specs.Float.Ieee.{nan, lt, is_nan}
 use Rattle.std.specs.Float.{inf, fin}
 use borrow.Author.Tests.{ltb-true, ltb-false, eqb-true, eqb-false, eq-eqb, not-false}
 use Rattle.math.specs.Basic.{is_finite}
-use Rattle.math.specs.Lists.{every}
 use Rattle.math.specs.laws.Lists.{every_at}
 use Rattle.curves.specs.MeanFn.{n_params_of}
 use Rattle.fit_faults.specs.laws.Lists.{order_at}
@@ -164,7 +163,7 @@ module _ (q : Problem) (rounds narrowings : ℕ) (ok : search_refusal_of q round
 
   -- so every fit that it makes is without faults
   pub search_fits : (t : Float) → is_finite t ≡ true → refusal_of (at_theta q t) (p q) (q.groups * k q) rounds ≡ 0
-  unfolding refusal_of first_from bad_outputs every
+  unfolding refusal_of first_from bad_outputs
   search_fits t h =
       let ten = neither _ _ (no_search_fault 9) in
       let two = neither _ _ ten.0 in
