@@ -45,7 +45,7 @@ fn power_fits(ord: usize, k: usize) -> bool
     true
 }
 
-// The last order from base down that power_fits.
+// The largest order up to base whose points in k dimensions are no more than MAX_POINTS.
 fn last_that_fits(base: usize, k: usize) -> Option<usize>
     ensures { result ≡ find (λ o. leb o base && leb (o ^ k) max_points) (reverse SUPPORTED) }
 {
