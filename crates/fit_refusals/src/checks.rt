@@ -7,9 +7,10 @@ ghost use Rattle.fit_refusals.specs.Valid.{ValidFit, ValidSearch};
 use crate::{NlmmProblem, Problem};
 use curves::Curve;
 use fit_faults::{
-    all_below, all_finite, bad_effects, bad_groups, bad_lengths, bad_numbers, bad_order,
-    bad_outputs, bad_readings, bad_theta, too_many,
+    all_below, bad_effects, bad_groups, bad_lengths, bad_numbers, bad_order, bad_outputs,
+    bad_readings, bad_theta, too_many,
 };
+use math::all_finite;
 use refusal::Refusal;
 
 impl<'a> Problem<'a> {
