@@ -25,6 +25,9 @@ pub wrote_then : (w : Written) (t u : List ℕ) → wrote w (t ++ u) ≡ wrote (
 unfolding wrote
 wrote_then w t u = grind (arith, common_steps, take_past, take-append-le {A = ℕ}, length-append {A = ℕ}, length-drop {A = ℕ}, append_assoc {A = ℕ}, append-nil {A = ℕ})
 
+-- what a function that writes one text after another needs
+pub ruleset writing = (wrote_none, wrote_then)
+
 -- a full text stays as it is, whatever is written
 pub full_stays : (w : Written) (t : List ℕ) → w.full ≡ true → wrote w t ≡ w
 unfolding wrote
