@@ -8,6 +8,23 @@ ghost use Rattle.text_buffer.specs.Text.{empty, wrote, whole_text};
 
 use std::marker::Model;
 
+// A part of a text, by where it begins and ends.
+#[derive(Clone, Copy, Debug, PartialEq, Eq)]
+pub struct Span {
+    pub start: usize,
+    pub stop: usize,
+}
+
+impl Span {
+    // The part, cut to what the text has.
+    pub fn of(self, text: &[u8]) -> &[u8]
+        ensures { result.now ≡ slice self.start self.stop text.now }
+    {
+        let head = &text[..self.stop.min(text.len())];
+        &head[self.start.min(head.len())..]
+    }
+}
+
 #[derive(Drop)]
 pub struct Text<'a> {
     out: &'a mut [u8],
@@ -67,14 +84,6 @@ impl<'a> Text<'a> {
         ensures { self.new ≡ wrote self.old (b ∷ []) }
     {
         self.put(&[b]);
-    }
-
-    // A part of a text, by where it begins and ends, cut to what the text has.
-    pub fn part(&mut self, text: &[u8], from: usize, to: usize)
-        ensures { self.new ≡ wrote self.old (slice from to text.now) }
-    {
-        let head = &text[..to.min(text.len())];
-        self.put(&head[from.min(head.len())..]);
     }
 
     // A whole number in decimal digits.

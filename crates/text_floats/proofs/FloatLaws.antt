@@ -1,5 +1,5 @@
 -- What the loop over the decimals needs of the definitions.
-use Rattle.std.proofs.Common.{◌≡◌, ℕ, zero, suc, ◌+◌, ◌-◌, ◌/◌, ◌%◌, ◌^◌, ◌<◌, [], ◌∷◌, refl, sym, arith, sub-one}
+use Rattle.std.proofs.Common.{◌≡◌, ℕ, zero, suc, ◌+◌, ◌-◌, ◌/◌, ◌%◌, ◌^◌, ◌<◌, [], ◌∷◌, arith, sub-one}
 use native.Mathlib.Nat.{one-le-pow}
 use Rattle.text_buffer.specs.Text.{Written, wrote}
 use Rattle.text_buffer.specs.laws.Text.{wrote_none, wrote_then}

@@ -1,9 +1,9 @@
 -- A float that is rounded to a whole number and then cut to a word is the whole number nearest to it: what is below 2 ^ 53 is exact as a float, and a
 -- float of 2 ^ 53 or more has no fraction.
-use Rattle.std.proofs.Common.{◌≡◌, ℕ, zero, suc, ◌+◌, ◌-◌, ◌*◌, ◌/◌, ◌%◌, ◌^◌, ◌<◌, ◌≤◌, Bool, true, false, ◌&&◌, T, ℤ, pos, negsuc, sym, refl, ap, ◌∙◌, arith, ltb→lt, leb→le, eqb, ltb, leb, mul_assoc, mul-one, zero-mul, div-one, div-le_self, div-lt_iff_lt-mul, le-div_iff_mul-le, mul-pos, zero-lt-suc, pow-add, pow_pos, mul-lt-mul_of_pos_right, lt_of_lt_of_le, ltb-true, ltb-false, lt-ltb, le-ltb}
+use Rattle.std.proofs.Common.{◌≡◌, ℕ, zero, suc, ◌+◌, ◌*◌, ◌/◌, ◌%◌, ◌^◌, ◌<◌, ◌≤◌, true, false, ◌&&◌, T, ℤ, pos, negsuc, sym, refl, ◌∙◌, arith, ltb→lt, eqb, ltb, leb, mul_assoc, mul-one, zero-mul, div-lt_iff_lt-mul, le-div_iff_mul-le, mul-pos, zero-lt-suc, pow-add, pow_pos, mul-lt-mul_of_pos_right, lt_of_lt_of_le, ltb-true, ltb-false, lt-ltb, le-ltb}
 use Rattle.std.proofs.Common.{lit≤}
 use native.Mathlib.Nat.{div-eq_of_lt, div-eq_of_lt-le, min-eq_left, mul-div_cancel}
-use Rattle.std.specs.Float.{float_round, round_with, ratio_round_half_up}
+use Rattle.std.specs.Float.{float_round, round_with}
 use lib.Ieee.{Float, nan, inf, fin, binary64, up, down, lt, round, fits, of_bits, to_unsigned}
 use lib.Ieee.Back.{round_whole}
 use lib.Ieee.Exact.{HasValue, round_exact}
