@@ -1,23 +1,43 @@
 -- A header names the columns; a name that is a known word must stand in its column.
-use Rattle.std.specs.Prelude.{ℕ, ◌+◌, ◌-◌, ◌/◌, Bool, ◌&&◌, ◌||◌, cond, List, eqb}
+use Rattle.std.specs.Prelude.{ℕ, ◌-◌, Bool, true, false, ◌&&◌, cond, List, [], ◌∷◌, nat_lt, codes, position, Option, Some, None}
+use Rattle.std.specs.Option.{option_map}
+use Rattle.std.specs.Str.{str_eq_ignore_ascii_case}
 use Rattle.math.specs.Parts.{part}
-use Rattle.text_buffer.specs.Text.{bytes}
-use Rattle.text_lines.specs.Lines.{number_of}
-use Rattle.read_table.specs.Classes.{in_letters, scan_of}
+use Rattle.read_table.specs.Classes.{scan_of}
+use Rattle.read_table.specs.declared.classes.Stop.{Stop}
+use Rattle.read_table.specs.declared.header.Column.{Column}
 
 -- five words each for the dose, the grams and the canister: those of a tinting machine, and of R's Orange, Loblolly and DNase
-abbrev pub column_words : List ℕ
+abbrev pub column_words : List (List ℕ)
 column_words =
-    bytes "\ndose\ndoses\nsteps\nage\nconc\ngrams\nweight\ndensity\nheight\ncircumference\ncanister\ntree\nseed\nrun\ngroup\n"
+    codes "dose" ∷ codes "doses" ∷ codes "steps" ∷ codes "age" ∷ codes "conc"
+    ∷ codes "grams" ∷ codes "weight" ∷ codes "density" ∷ codes "height" ∷ codes "circumference"
+    ∷ codes "canister" ∷ codes "tree" ∷ codes "seed" ∷ codes "run" ∷ codes "group"
+    ∷ []
 
--- the column, 1 to 3, that the letters from a place on name; 0 where they are no known word
-unfoldable pub column_of : List ℕ → ℕ → ℕ
+abbrev pub column_at : ℕ → Column
+column_at n = cond (nat_lt n 5) Column.Dose (cond (nat_lt n 10) Column.Grams Column.Canister)
+
+-- the column that the letters from a place on name, capitals and small letters alike; none where they are no known word
+unfoldable pub column_of : List ℕ → ℕ → Option Column
 column_of line start =
-    let n = number_of column_words (part start (scan_of in_letters line start - start) line) in
-    cond (eqb n 0) 0 ((n - 1) / 5 + 1)
+    let letters = part start (scan_of Stop.EndOfLetters line start - start) line in
+    option_map column_at (position (λ w. str_eq_ignore_ascii_case w letters) column_words)
 
-unfoldable pub fits_column : List ℕ → ℕ → ℕ → Bool
-fits_column line start column = eqb (column_of line start) 0 || eqb (column_of line start) column
+abbrev pub same_column : Column → Column → Bool
+same_column Column.Dose Column.Dose = true
+same_column Column.Grams Column.Grams = true
+same_column Column.Canister Column.Canister = true
+same_column _ _ = false
+
+-- a field names a column, or none
+abbrev pub fits_named : Option Column → Column → Bool
+fits_named None column = true
+fits_named (Some named) column = same_column named column
+
+unfoldable pub fits_column : List ℕ → ℕ → Column → Bool
+fits_column line start column = fits_named (column_of line start) column
 
 unfoldable pub in_order : List ℕ → ℕ → ℕ → ℕ → Bool
-in_order line dose grams canister = fits_column line dose 1 && (fits_column line grams 2 && fits_column line canister 3)
+in_order line dose grams canister =
+    fits_column line dose Column.Dose && (fits_column line grams Column.Grams && fits_column line canister Column.Canister)

@@ -6,6 +6,13 @@ ghost use Rattle.std.specs.Prelude.{◌≡◌, min};
 ghost use Rattle.std.proofs.Math.Seq.{slice};
 ghost use Rattle.text_buffer.specs.Text.{start, wrote, wrote_byte, whole_text};
 
+// A part of a text, from `start` up to `stop`.
+#[derive(Clone, Copy, Debug, PartialEq, Eq)]
+pub struct Span {
+    pub start: usize,
+    pub stop: usize,
+}
+
 // How many bytes of the buffer are written, and whether something did not fit.
 #[derive(Clone, Copy)]
 pub struct Place {

@@ -2,5 +2,6 @@
 #![tactic(auto)]
 
 pub mod columns;
+pub mod find;
 pub mod template;
 pub mod words;
