@@ -1,34 +1,22 @@
--- Text as a list of bytes, and what a buffer and a place in it are after a text is written there.
-use Rattle.std.specs.Prelude.{ℕ, zero, suc, ◌+◌, ◌/◌, ◌%◌, true, false, cond, List, [], ◌∷◌, ◌++◌, ltb, length, set}
-use Prim.Native.Char.{code}
-use Prim.Native.String.{String, [] as ε, ◌∷◌ as ◌▸◌}
-use Rattle.text_buffer.specs.declared.Place.{Place}
+-- What a text in a lent buffer is after something is written. A text is a list of bytes.
+use Rattle.std.specs.Prelude.{ℕ, Bool, false, cond, List, [], ◌++◌, ltb, length, take, drop, decimal}
 
--- the bytes of a quoted text in ASCII
-abbrev pub bytes : String → List ℕ
-bytes ε = []
-bytes (c ▸ s) = code c ∷ bytes s
+-- what is written, the bytes of the buffer after it, and whether something did not fit
+pub record Written : Type 0 where
+  pub text : List ℕ
+  pub rest : List ℕ
+  pub full : Bool
 
--- the place in an empty buffer
-abbrev pub start : Place
-start = record { at = 0; full = false }
+-- nothing is written in a buffer
+abbrev pub empty : List ℕ → Written
+empty l = record { text = []; rest = l; full = false }
 
--- one byte: at the place, which moves on; where the buffer has no byte left, the place is full, and stays so
-unfoldable pub wrote_byte : List ℕ → Place → ℕ → List ℕ × Place
-wrote_byte l p b =
-    cond p.full (l, p)
-    (cond (ltb p.at (length l)) (set l p.at b, record { at = p.at + 1; full = false }) (l, record { at = p.at; full = true }))
+-- a text after what is written, as much of it as the buffer has bytes left. Once something did not fit, nothing more is written
+unfoldable pub wrote : Written → List ℕ → Written
+wrote w t =
+    cond w.full w
+    (record { text = w.text ++ take (length w.rest) t; rest = drop (length t) w.rest; full = ltb (length w.rest) (length t) })
 
--- a text, byte by byte
-unfoldable pub wrote : List ℕ → Place → List ℕ → List ℕ × Place
-wrote l p [] = (l, p)
-wrote l p (b ∷ t) = wrote (wrote_byte l p b).0 (wrote_byte l p b).1 t
-
--- the decimal digits of n, as few as hold it, at most so many
-unfoldable pub decimal_digits : ℕ → ℕ → List ℕ
-decimal_digits zero n = []
-decimal_digits (suc k) n = let more = decimal_digits k (n / 10) in cond (ltb n 10) ((48 + n) ∷ []) (more ++ ((48 + n % 10) ∷ []))
-
--- a whole number below 2^64, which has at most twenty digits
+-- a whole number below 2^64 in decimal digits, as few as hold it
 abbrev pub whole_text : ℕ → List ℕ
-whole_text n = decimal_digits 20 n
+whole_text = decimal

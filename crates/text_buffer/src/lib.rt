@@ -1,84 +1,95 @@
-// Text for a person, written into a lent buffer. What does not fit is told: a place that is full stays full, and
-// its caller asks once, at the end.
+// Text for a person, written into a lent buffer. What does not fit is told: a text that is full stays full, and whoever
+// reads it asks once, at the end.
 #![tactic(auto)]
 
-ghost use Rattle.std.specs.Prelude.{◌≡◌, min};
+ghost use Rattle.std.specs.Prelude.{◌≡◌, ◌∷◌, []};
 ghost use Rattle.std.proofs.Math.Seq.{slice};
-ghost use Rattle.text_buffer.specs.Text.{start, wrote, wrote_byte, whole_text};
+ghost use Rattle.text_buffer.specs.Text.{empty, wrote, whole_text};
 
-// A part of a text, from `start` up to `stop`.
+use std::marker::Model;
+
+// A part of a text, by where it begins and ends.
 #[derive(Clone, Copy, Debug, PartialEq, Eq)]
 pub struct Span {
     pub start: usize,
     pub stop: usize,
 }
 
-// How many bytes of the buffer are written, and whether something did not fit.
-#[derive(Clone, Copy)]
-pub struct Place {
-    pub at: usize,
-    pub full: bool,
-}
-
-pub fn begin() -> Place
-    ensures { result ≡ start }
-{
-    Place { at: 0, full: false }
-}
-
-pub fn byte(out: &mut [u8], p: Place, b: u8) -> Place
-    ensures { (out.new, result) ≡ wrote_byte out.old p b }
-{
-    let at = p.at;
-    if p.full {
-        return p;
+impl Span {
+    // The part, cut to what the text has.
+    pub fn of(self, text: &[u8]) -> &[u8]
+        ensures { result.now ≡ slice self.start self.stop text.now }
+    {
+        let head = &text[..self.stop.min(text.len())];
+        &head[self.start.min(head.len())..]
     }
-    if at < out.len() {
-        out[at] = b;
-        return Place {
-            at: at + 1,
+}
+
+#[derive(Drop)]
+pub struct Text<'a> {
+    out: &'a mut [u8],
+    at: usize,
+    full: bool,
+}
+
+impl<'a> Model for Text<'a> {
+    ghost use Rattle.std.specs.Prelude.{◌≤◌, length, take, drop};
+    ghost use Rattle.text_buffer.specs.Text.{Written};
+
+    ghost Value = { Written };
+
+    ghost view = { λ a. record { text = take a.at a.out.now; rest = drop a.at a.out.now; full = a.full } };
+
+    ghost invariant = { λ a. a.at ≤ length a.out.now };
+}
+
+impl<'a> Text<'a> {
+    pub fn new(out: &'a mut [u8]) -> Text<'a>
+        ensures { result ≡ empty out.old }
+    {
+        Text {
+            out,
+            at: 0,
             full: false,
-        };
+        }
     }
-    Place { at: at, full: true }
-}
 
-// The text after what is written, as much of it as fits.
-pub fn put(out: &mut [u8], p: Place, text: &[u8]) -> Place
-    ensures { (out.new, result) ≡ wrote out.old p text.now }
-{
-    let mut q = p;
-    let mut i = 0;
-    while i < text.len() {
-        q = byte(out, q, text[i]);
-        i += 1;
+    pub fn written(&self) -> &[u8]
+        ensures { result.now ≡ self.now.text }
+    {
+        &self.out[..self.at]
     }
-    q
-}
 
-pub fn lesser(a: usize, b: usize) -> usize
-    ensures { result ≡ min a b }
-{
-    if a < b {
-        return a;
+    // Whether something did not fit.
+    pub fn is_full(&self) -> bool
+        ensures { result ≡ self.now.full }
+    {
+        self.full
     }
-    b
-}
 
-// A part of a text, by where it begins and ends, cut to what the text has.
-pub fn part(out: &mut [u8], p: Place, text: &[u8], from: usize, to: usize) -> Place
-    ensures { (out.new, result) ≡ wrote out.old p (slice from to text.now) }
-{
-    let end = lesser(to, text.len());
-    let at = lesser(from, end);
-    put(out, p, &text[at..end])
-}
+    // As much of the text as fits.
+    pub fn put(&mut self, text: &[u8])
+        ensures { self.new ≡ wrote self.old text.now }
+    {
+        if self.full {
+            return;
+        }
+        let n = text.len().min(self.out.len() - self.at);
+        self.out[self.at..self.at + n].copy_from_slice(&text[..n]);
+        self.at += n;
+        self.full = n < text.len();
+    }
 
-// A whole number in decimal digits.
-pub fn whole(out: &mut [u8], p: Place, n: u64) -> Place
-    ensures { (out.new, result) ≡ wrote out.old p (whole_text n) }
-{
-    let mut text = [0u8; 20];
-    let k = io::decimal(n, &mut text);
-    put(out, p, &text[..k])
+    pub fn byte(&mut self, b: u8)
+        ensures { self.new ≡ wrote self.old (b ∷ []) }
+    {
+        self.put(&[b]);
+    }
+
+    // A whole number in decimal digits.
+    pub fn whole(&mut self, n: u64)
+        ensures { self.new ≡ wrote self.old (whole_text n) }
+    {
+        self.put(itoa::Buffer::new().format(n).as_bytes());
+    }
 }

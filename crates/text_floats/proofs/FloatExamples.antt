@@ -3,7 +3,7 @@ use Rattle.std.proofs.Common.{◌≡◌, ℕ, List, [], ◌∷◌, refl}
 use Prim.Native.String.{String}
 use lib.Ieee.{Float}
 use Rattle.math.specs.Basic.{bits}
-use Rattle.text_buffer.specs.Text.{bytes}
+use Rattle.std.specs.Prelude.{codes}
 use Rattle.text_floats.specs.Floats.{figure_text, fixed_text, scientific_text}
 use Rattle.text_floats.specs.laws.Computes.{floats_computes}
 
@@ -13,7 +13,7 @@ computed f ((x, t) ∷ rows) = f (bits x) ∷ computed f rows
 
 abbrev stated : List (ℕ × String) → List (List ℕ)
 stated [] = []
-stated ((x, t) ∷ rows) = bytes t ∷ stated rows
+stated ((x, t) ∷ rows) = codes t ∷ stated rows
 
 abbrev Rows : (Float → List ℕ) → List (ℕ × String) → Type 0
 Rows f rows = computed f rows ≡ stated rows

@@ -1,5 +1,4 @@
 mod FloatExamples
 mod FloatMeaning
 mod NearestLaws
-mod FloatLaws
-mod FloatTexts
+pub mod FloatLaws

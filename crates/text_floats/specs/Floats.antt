@@ -1,11 +1,13 @@
 -- A float in decimal digits, as text for a person.
-use Rattle.std.specs.Prelude.{ℕ, zero, suc, ◌+◌, ◌-◌, ◌*◌, ◌/◌, ◌%◌, ◌^◌, Bool, true, false, cond, ◌&&◌, List, [], ◌∷◌, ◌++◌, pos, ◌==◌, nat_le, nat_lt, Float}
+use Rattle.std.specs.Prelude.{ℕ, zero, suc, ◌+◌, ◌*◌, ◌/◌, ◌%◌, ◌^◌, cond, ◌&&◌, List, [], ◌∷◌, ◌++◌, ℤ, pos, neg_ℤ, ◌+ℤ◌, int_lt, unsigned_abs, ◌==◌, nat_le, nat_lt, Float, is_nan, codes}
+use Rattle.std.specs.List.{position}
+use Rattle.std.specs.Option.{unwrap_or}
 use Rattle.std.specs.Float.{nan, inf, fin, binary64}
 use Rattle.std.specs.Float.Ieee.{up, down, lt, le, eq, of_int}
-use Rattle.math.specs.Basic.{bits, mul, div, abs_of, one}
+use Rattle.math.specs.Basic.{bits, mul, div, abs_of, is_finite, one}
 use Rattle.math.specs.Basic as Basic
 use Rattle.math.specs.Loops.{until}
-use Rattle.text_buffer.specs.Text.{bytes, whole_text}
+use Rattle.text_buffer.specs.Text.{whole_text}
 use Rattle.text_floats.specs.declared.Digits.{Digits}
 use Rattle.text_floats.specs.declared.Scaled.{Scaled}
 
@@ -26,7 +28,7 @@ last_digits (suc k) n = (48 + n / 10 ^ k % 10) ∷ last_digits k n
 -- n / 10 ^ d with d decimals: the digits before the point, and the point and d digits where there are any
 unfoldable pub fraction_text : ℕ → ℕ → List ℕ
 fraction_text n zero = []
-fraction_text n (suc d) = bytes "." ++ last_digits (suc d) n
+fraction_text n (suc d) = codes "." ++ last_digits (suc d) n
 
 unfoldable pub point_text : ℕ → ℕ → List ℕ
 point_text n d = whole_text (n / 10 ^ d) ++ fraction_text n d
@@ -38,26 +40,26 @@ shortened n (suc d) = let r = shortened (n / 10) d in cond (n % 10 == 0) r (n, s
 
 -- n / 10 ^ d with the sign of x; 0 has none
 unfoldable pub sign_text : Float → ℕ → List ℕ
-sign_text x n = cond (lt x Basic.zero && nat_lt 0 n) (bytes "-") []
+sign_text x n = cond (lt x Basic.zero && nat_lt 0 n) (codes "-") []
 
 unfoldable pub signed_text : Float → ℕ → ℕ → List ℕ
 signed_text x n d = sign_text x n ++ point_text n d
 
 -- ---- scientific notation
 
--- x as about m * 10 ^ e, or m / 10 ^ e where it is small, with m at least 1 and below 10: x of 1 or more is divided by ten until it is below 10,
--- x below 1 multiplied until it is 1 or more. Each step is rounded, and there are at most 400
+-- x as about m * 10 ^ e, with m at least 1 and below 10: x of 1 or more is divided by ten until it is below 10, x below 1 multiplied until it is 1 or
+-- more. Each step is rounded, and there are at most 400
 abbrev pub ten : Float
 ten = bits 0x4024_0000_0000_0000
 
-abbrev pub scaled : Bool → ℕ → Float → Scaled
-scaled s e m = record { mantissa = m; power = e; small = s }
+abbrev pub scaled : ℤ → Float → Scaled
+scaled e m = record { mantissa = m; power = e }
 
 unfoldable pub divided : ℕ → ℕ → Float → Scaled
-divided = until (λ e m. lt m ten) (scaled false) (λ e m. div m ten) (scaled false 400)
+divided = until (λ e m. lt m ten) (λ e. scaled (pos e)) (λ e m. div m ten) (scaled (pos 400))
 
 unfoldable pub multiplied : ℕ → ℕ → Float → Scaled
-multiplied = until (λ e m. le one m) (scaled true) (λ e m. mul m ten) (scaled true 400)
+multiplied = until (λ e m. le one m) (λ e. scaled (neg_ℤ (pos e))) (λ e m. mul m ten) (scaled (neg_ℤ (pos 400)))
 
 unfoldable pub in_tens : Float → Scaled
 in_tens x = cond (lt x one) (multiplied 400 0 x) (divided 400 0 x)
@@ -66,31 +68,28 @@ in_tens x = cond (lt x one) (multiplied 400 0 x) (divided 400 0 x)
 abbrev pub million : Float
 million = bits 0x412e_8480_0000_0000
 
-unfoldable pub next_power : Scaled → Digits
-next_power s =
-    cond s.small
-    (record { n = 1000000; power = s.power - 1; small = nat_lt 1 s.power })
-    (record { n = 1000000; power = s.power + 1; small = false })
-
 unfoldable pub seven_digits : Scaled → Digits
 seven_digits s =
     let n = nearest_whole (mul s.mantissa million) in
-    cond (nat_lt n 10000000) (record { n = n; power = s.power; small = s.small }) (next_power s)
+    cond (nat_lt n 10000000) (record { n = n; power = s.power }) (record { n = 1000000; power = s.power +ℤ pos 1 })
 
 -- the power has a sign and at least two digits
-unfoldable pub mark_text : ℕ → Bool → List ℕ
-mark_text e small = cond (nat_lt e 10) (cond small (bytes "e-0") (bytes "e+0")) (cond small (bytes "e-") (bytes "e+"))
+unfoldable pub two_digits : ℕ → List ℕ
+two_digits e = cond (nat_lt e 10) (codes "0") [] ++ whole_text e
+
+unfoldable pub power_text : ℤ → List ℕ
+power_text e = cond (int_lt e (pos 0)) (codes "e-") (codes "e+") ++ two_digits (unsigned_abs e)
 
 unfoldable pub powered_text : Float → Digits → List ℕ
-powered_text x d = signed_text x d.n 6 ++ (mark_text d.power d.small ++ whole_text d.power)
+powered_text x d = signed_text x d.n 6 ++ power_text d.power
 
 -- nan, inf, -inf, 0, or a mantissa and its power
 unfoldable pub scientific_text : Float → List ℕ
-scientific_text nan = bytes "nan"
-scientific_text (inf s) = cond s (bytes "-inf") (bytes "inf")
-scientific_text (fin s m e) =
-    let x = fin s m e in
-    cond (eq x Basic.zero) (bytes "0") (powered_text x (seven_digits (in_tens (abs_of x))))
+scientific_text x =
+    cond (is_nan x) (codes "nan")
+    (cond (eq x Basic.zero) (codes "0")
+    (cond (is_finite x) (powered_text x (seven_digits (in_tens (abs_of x))))
+    (cond (lt x Basic.zero) (codes "-inf") (codes "inf"))))
 
 -- ---- with so many decimals, and to seven significant digits
 
@@ -127,14 +126,9 @@ powers =
     ∷ bits 0x3f1a_36e2_eb1c_432d
     ∷ []
 
--- how many of them come before the first that x reaches
-unfoldable pub missed : Float → List Float → ℕ
-missed x [] = 0
-missed x (t ∷ ts) = let r = missed x ts in cond (le t x) 0 (suc r)
-
--- the decimals that give seven significant digits to an x from 10 ^ -5 to 10 ^ 7
+-- the decimals that give seven significant digits to an x from 10 ^ -5 to 10 ^ 7: how many powers come before the first that x reaches
 unfoldable pub decimals_of : Float → ℕ
-decimals_of x = missed x powers
+decimals_of x = unwrap_or (position (λ t. le t x) powers) 11
 
 -- |x| to seven significant digits, as n / 10 ^ d
 unfoldable pub seven_significant : Float → ℕ × ℕ

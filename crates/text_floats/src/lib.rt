@@ -3,310 +3,276 @@
 // where x lies within that rounding of a half.
 #![tactic(auto)]
 
-ghost use Rattle.std.specs.Prelude.{◌≡◌, ◌/◌, ◌^◌, ◌≤◌, length};
+ghost use Rattle.std.specs.Prelude.{◌≡◌, ◌≤◌, ◌≤ℤ◌, pos};
+ghost use Rattle.std.specs.List.{position};
+ghost use Rattle.std.specs.Float.Ieee.{le};
 ghost use Rattle.math.specs.Basic.{mul, abs_of};
 ghost use Rattle.text_buffer.specs.Text.{wrote};
-ghost use Rattle.text_floats.specs.Floats.{nearest_whole, last_digits, shortened, decimals_of, tens, seven_significant};
+ghost use Rattle.text_floats.specs.Floats.{nearest_whole, shortened, decimals_of, tens, seven_significant};
 ghost use Rattle.text_floats.specs.Floats.{divided, multiplied, in_tens, seven_digits};
-ghost use Rattle.text_floats.specs.Floats.{point_text, signed_text, mark_text, powered_text, fixed_text, figure_text, scientific_text};
+ghost use Rattle.text_floats.specs.Floats.{fraction_text, point_text, sign_text, signed_text, two_digits, power_text, powered_text, fixed_text, figure_text, scientific_text};
 
-use text_buffer::{Place, put, whole};
+use text_buffer::Text;
 
 // |x| * 10^d.
+#[tactic(auto, unfolding(crate::specs::Floats::tens))]
 fn shifted(x: f64, d: u64) -> f64
     requires { d ≤ 15 }
     ensures { result ≡ mul (abs_of x) (tens d) }
 {
-    let mut power = 1u64;
-    let mut i = 0u64;
-    while i < d {
-        power = power * 10;
-        i += 1;
-    }
-    math::abs(x) * std::num::nearest_u64_to_f64(power)
+    math::abs(x) * std::num::nearest_u64_to_f64(10u64.pow(d as u32))
 }
 
-// The whole number nearest to m, half way up; 0 where m is below 0 or not below 2^64. A float of 2^53 or more is whole.
+// The whole number nearest to m, half way up; 0 where m is below 0 or not below 2^64.
 pub fn nearest(m: f64) -> u64
     ensures { result ≡ nearest_whole m }
 {
-    if m > 0.0 {
-        if m < 18446744073709551616.0 {
-            let n = std::num::truncating_f64_to_u64(m);
-            if n >= 9007199254740992 {
-                return n;
-            }
-            if m - std::num::nearest_u64_to_f64(n) >= 0.5 {
-                return n + 1;
-            }
-            return n;
-        }
+    if m > 0.0 && m < 18446744073709551616.0 {
+        std::num::saturating_f64_to_u64(m.round())
+    } else {
+        0
     }
-    0
 }
 
-// The last digits of n, as many as text has places, and the number before them.
-fn last_digits(n: u64, text: &mut [u8]) -> u64
-    ensures text_after { text.new ≡ last_digits (length text.old) n }
-    ensures value { result ≡ n / 10 ^ length text.old }
+// The point and d decimals of n / 10^d, where there are any.
+#[tactic(auto, using(crate::proofs::FloatLaws::fractions))]
+fn fraction(out: &mut Text<'_>, n: u64, d: u64)
+    requires { d ≤ 15 }
+    ensures { out.new ≡ wrote out.old (fraction_text n d) }
 {
-    let mut i = text.len();
-    let mut rest = n;
-    while i > 0 {
-        i -= 1;
-        text[i] = 48 + (rest % 10) as u8;
-        rest = rest / 10;
+    if d == 0 {
+        return;
     }
-    rest
+    out.byte(b'.');
+    for k in (0..d as u32).rev() {
+        out.byte(b'0' + (n / 10u64.pow(k) % 10) as u8);
+    }
 }
 
 // n / 10^d with d decimals.
-fn point(out: &mut [u8], p: Place, n: u64, d: u64) -> Place
+#[tactic(auto, using(text_buffer::specs::laws::Text::writing, crate::proofs::FloatLaws::ten_pos), unfolding(crate::specs::Floats::point_text))]
+fn point(out: &mut Text<'_>, n: u64, d: u64)
     requires { d ≤ 15 }
-    ensures { (out.new, result) ≡ wrote out.old p (point_text n d) }
+    ensures { out.new ≡ wrote out.old (point_text n d) }
 {
-    let mut room = [46u8; 16];
-    let k = d as usize + 1;
-    let w = last_digits(n, &mut room[1..k]);
-    let q = whole(out, p, w);
-    if d == 0 {
-        return q;
-    }
-    put(out, q, &room[..k])
+    out.whole(n / 10u64.pow(d as u32));
+    fraction(out, n, d);
 }
 
 // `-` before the digits of a number below 0 that does not round to 0.
-fn signed(out: &mut [u8], p: Place, x: f64, n: u64, d: u64) -> Place
-    requires { d ≤ 15 }
-    ensures { (out.new, result) ≡ wrote out.old p (signed_text x n d) }
+#[tactic(auto, using(text_buffer::specs::laws::Text::writing), unfolding(crate::specs::Floats::sign_text))]
+fn sign(out: &mut Text<'_>, x: f64, n: u64)
+    ensures { out.new ≡ wrote out.old (sign_text x n) }
 {
-    if x < 0.0 {
-        if n > 0 {
-            let q = put(out, p, b"-");
-            return point(out, q, n, d);
-        }
+    if x < 0.0 && n > 0 {
+        out.byte(b'-');
     }
-    point(out, p, n, d)
+}
+
+#[tactic(auto, using(text_buffer::specs::laws::Text::writing), unfolding(crate::specs::Floats::signed_text))]
+fn signed(out: &mut Text<'_>, x: f64, n: u64, d: u64)
+    requires { d ≤ 15 }
+    ensures { out.new ≡ wrote out.old (signed_text x n d) }
+{
+    sign(out, x, n);
+    point(out, n, d);
 }
 
 // x with so many decimals; in scientific notation where the decimals or the digits would be more than 15, and nan, inf and -inf.
-pub fn fixed(out: &mut [u8], p: Place, x: f64, decimals: u64) -> Place
-    ensures { (out.new, result) ≡ wrote out.old p (fixed_text x decimals) }
+#[tactic(auto, unfolding(crate::specs::Floats::fixed_text))]
+pub fn fixed(out: &mut Text<'_>, x: f64, decimals: u64)
+    ensures { out.new ≡ wrote out.old (fixed_text x decimals) }
 {
     if decimals <= 15 {
         let m = shifted(x, decimals);
         if m < 1e15 {
-            return signed(out, p, x, nearest(m), decimals);
+            return signed(out, x, nearest(m), decimals);
         }
     }
-    scientific(out, p, x)
+    scientific(out, x);
 }
 
 const POWERS: [f64; 11] = [1e6, 1e5, 1e4, 1e3, 1e2, 1e1, 1.0, 1e-1, 1e-2, 1e-3, 1e-4];
 
+// The first of some powers that x reaches.
+fn reached(x: f64, powers: &[f64]) -> Option<usize>
+    ensures { result ≡ position (λ power. le power x) powers.now }
+{
+    powers.iter().position(|power| x >= *power)
+}
+
 // How many decimals give x, of at least 1e-5, seven significant digits.
+#[tactic(auto, unfolding(crate::specs::Floats::decimals_of, crate::specs::Floats::powers))]
 pub fn decimals(x: f64) -> u64
-    ensures { result ≡ decimals_of x }
+    ensures value { result ≡ decimals_of x }
+    ensures bound { result ≤ 11 }
 {
-    let mut i = 0;
-    while i < 11 {
-        if x >= POWERS[i] {
-            return i as u64;
-        }
-        i += 1;
-    }
-    11
+    reached(x, &POWERS).unwrap_or(11) as u64
 }
 
-// A number of decimals without the zeros at its end.
-#[derive(Clone, Copy)]
-struct Short {
-    n: u64,
-    d: u64,
-}
-
-fn shorter(n: u64, d: u64) -> Short
-    ensures { (result.n, result.d) ≡ shortened n d }
+// n / 10^d as another n and d, without the zeros at the end of its decimals.
+#[tactic(auto, unfolding(crate::specs::Floats::shortened))]
+fn shortened(n: u64, d: u64) -> (u64, u64)
+    ensures value { result ≡ shortened n d }
+    ensures bound { result.1 ≤ d }
 {
-    let mut m = n;
-    let mut k = d;
-    while k > 0 {
-        if m % 10 != 0 {
-            return Short { n: m, d: k };
-        }
-        m = m / 10;
-        k -= 1;
+    let mut n = n;
+    let mut d = d;
+    while d > 0 && n % 10 == 0 {
+        n /= 10;
+        d -= 1;
     }
-    Short { n: m, d: 0 }
+    (n, d)
 }
 
 // |x| to seven significant digits.
-fn seven_significant(x: f64) -> Short
-    ensures { (result.n, result.d) ≡ seven_significant x }
+#[tactic(auto, unfolding(crate::specs::Floats::seven_significant))]
+fn seven_significant(x: f64) -> (u64, u64)
+    ensures value { result ≡ seven_significant x }
+    ensures bound { result.1 ≤ 15 }
 {
     let d = decimals(math::abs(x));
-    shorter(nearest(shifted(x, d)), d)
+    shortened(nearest(shifted(x, d)), d)
 }
 
 // x to seven significant digits, as R prints it: without zeros at the end, in scientific notation where x is very small or large.
-pub fn figure(out: &mut [u8], p: Place, x: f64) -> Place
-    ensures { (out.new, result) ≡ wrote out.old p (figure_text x) }
+#[tactic(auto, unfolding(crate::specs::Floats::figure_text))]
+pub fn figure(out: &mut Text<'_>, x: f64)
+    ensures { out.new ≡ wrote out.old (figure_text x) }
 {
-    let a = math::abs(x);
-    if a >= 1e-5 {
-        if a < 1e15 {
-            let s = seven_significant(x);
-            return signed(out, p, x, s.n, s.d);
-        }
+    let size = math::abs(x);
+    if size >= 1e-5 && size < 1e15 {
+        let (n, d) = seven_significant(x);
+        signed(out, x, n, d);
+    } else {
+        scientific(out, x);
     }
-    scientific(out, p, x)
 }
 
-// A size of about mantissa * 10^power, or mantissa / 10^power where it is small, the mantissa at least 1 and below 10: by
-// divisions and products by ten, each rounded.
+// A size of about mantissa * 10^power, the mantissa at least 1 and below 10: by divisions and products by ten, each rounded.
 #[derive(Clone, Copy)]
 pub struct Scaled {
     pub mantissa: f64,
-    pub power: u64,
-    pub small: bool,
+    pub power: i64,
 }
 
+#[tactic(auto, using(math::specs::laws::Loops::until_stop, math::specs::laws::Loops::until_go, math::specs::laws::Loops::until_done), unfolding(crate::specs::Floats::divided))]
 fn scaled_down(x: f64) -> Scaled
-    ensures { result ≡ divided 400 0 x }
+    ensures value { result ≡ divided 400 0 x }
+    ensures bound { result.power ≤ℤ pos 400 }
 {
     let mut m = x;
-    let mut e = 0u64;
-    while e < 400 {
+    for e in 0u64..400 {
         if m < 10.0 {
             return Scaled {
                 mantissa: m,
-                power: e,
-                small: false,
+                power: e as i64,
             };
         }
-        m = m / 10.0;
-        e += 1;
+        m /= 10.0;
     }
     Scaled {
         mantissa: m,
         power: 400,
-        small: false,
     }
 }
 
+#[tactic(auto, using(math::specs::laws::Loops::until_stop, math::specs::laws::Loops::until_go, math::specs::laws::Loops::until_done), unfolding(crate::specs::Floats::multiplied))]
 fn scaled_up(x: f64) -> Scaled
-    ensures { result ≡ multiplied 400 0 x }
+    ensures value { result ≡ multiplied 400 0 x }
+    ensures bound { result.power ≤ℤ pos 400 }
 {
     let mut m = x;
-    let mut e = 0u64;
-    while e < 400 {
+    for e in 0u64..400 {
         if m >= 1.0 {
             return Scaled {
                 mantissa: m,
-                power: e,
-                small: true,
+                power: -(e as i64),
             };
         }
-        m = m * 10.0;
-        e += 1;
+        m *= 10.0;
     }
     Scaled {
         mantissa: m,
-        power: 400,
-        small: true,
+        power: -400,
     }
 }
 
+#[tactic(auto, unfolding(crate::specs::Floats::in_tens))]
 pub fn in_tens(x: f64) -> Scaled
-    ensures { result ≡ in_tens x }
+    ensures value { result ≡ in_tens x }
+    ensures bound { result.power ≤ℤ pos 400 }
 {
     if x < 1.0 {
-        return scaled_up(x);
+        scaled_up(x)
+    } else {
+        scaled_down(x)
     }
-    scaled_down(x)
 }
 
 // n / 10^6 with a power of ten.
 #[derive(Clone, Copy)]
 struct Digits {
     n: u64,
-    power: u64,
-    small: bool,
+    power: i64,
 }
 
 // A mantissa to seven digits; one that rounds to 10 is 1 with the next power.
+#[tactic(auto, unfolding(crate::specs::Floats::seven_digits))]
 fn seven_digits(s: Scaled) -> Digits
-    requires { s.power ≤ 400 }
+    requires { s.power ≤ℤ pos 400 }
     ensures { result ≡ seven_digits s }
 {
     let n = nearest(s.mantissa * 1e6);
-    let e = s.power;
     if n < 10000000 {
-        return Digits {
-            n: n,
-            power: e,
-            small: s.small,
-        };
-    }
-    if s.small {
-        if e > 1 {
-            return Digits {
-                n: 1000000,
-                power: e - 1,
-                small: true,
-            };
-        }
-        return Digits {
-            n: 1000000,
-            power: 0,
-            small: false,
-        };
+        return Digits { n, power: s.power };
     }
     Digits {
         n: 1000000,
-        power: e + 1,
-        small: false,
+        power: s.power + 1,
     }
 }
 
-// What stands before the digits of a power, which are at least two.
-fn mark(out: &mut [u8], p: Place, power: u64, small: bool) -> Place
-    ensures { (out.new, result) ≡ wrote out.old p (mark_text power small) }
+#[tactic(auto, using(text_buffer::specs::laws::Text::writing), unfolding(crate::specs::Floats::two_digits))]
+fn two_digits(out: &mut Text<'_>, n: u64)
+    ensures { out.new ≡ wrote out.old (two_digits n) }
 {
-    if power < 10 {
-        if small {
-            return put(out, p, b"e-0");
-        }
-        return put(out, p, b"e+0");
+    if n < 10 {
+        out.byte(b'0');
     }
-    if small {
-        return put(out, p, b"e-");
-    }
-    put(out, p, b"e+")
+    out.whole(n);
 }
 
-fn powered(out: &mut [u8], p: Place, x: f64, d: Digits) -> Place
-    ensures { (out.new, result) ≡ wrote out.old p (powered_text x d) }
+// The power's sign, and at least two digits.
+#[tactic(auto, using(text_buffer::specs::laws::Text::writing), unfolding(crate::specs::Floats::power_text))]
+fn power(out: &mut Text<'_>, power: i64)
+    ensures { out.new ≡ wrote out.old (power_text power) }
 {
-    let q = signed(out, p, x, d.n, 6);
-    let r = mark(out, q, d.power, d.small);
-    whole(out, r, d.power)
+    out.put(if power < 0 { b"e-" } else { b"e+" });
+    two_digits(out, power.unsigned_abs());
 }
 
-pub fn scientific(out: &mut [u8], p: Place, x: f64) -> Place
-    ensures { (out.new, result) ≡ wrote out.old p (scientific_text x) }
+#[tactic(auto, using(text_buffer::specs::laws::Text::writing), unfolding(crate::specs::Floats::powered_text))]
+fn powered(out: &mut Text<'_>, x: f64, d: Digits)
+    ensures { out.new ≡ wrote out.old (powered_text x d) }
 {
-    if x != x {
-        return put(out, p, b"nan");
+    signed(out, x, d.n, 6);
+    power(out, d.power);
+}
+
+#[tactic(auto, unfolding(crate::specs::Floats::scientific_text))]
+pub fn scientific(out: &mut Text<'_>, x: f64)
+    ensures { out.new ≡ wrote out.old (scientific_text x) }
+{
+    if x.is_nan() {
+        out.put(b"nan");
+    } else if x == 0.0 {
+        out.put(b"0");
+    } else if math::is_finite(x) {
+        powered(out, x, seven_digits(in_tens(math::abs(x))));
+    } else if x < 0.0 {
+        out.put(b"-inf");
+    } else {
+        out.put(b"inf");
     }
-    if x == 0.0 {
-        return put(out, p, b"0");
-    }
-    if math::is_finite(x) {
-        return powered(out, p, x, seven_digits(in_tens(math::abs(x))));
-    }
-    if x < 0.0 {
-        return put(out, p, b"-inf");
-    }
-    put(out, p, b"inf")
 }

@@ -1,55 +1,49 @@
--- The rest of some spaces, and of a word, one byte further on; at a newline the word ends.
-use Prim.Native.Nat.{ℕ, zero, suc, ◌+◌, ◌-◌, ◌≤◌, ◌<◌}
-use mathlib.Core.Path.{◌≡◌, refl}
-use mathlib.Core.List.{List, [], ◌∷◌}
-use native.Mathlib.Numerals.{add-one}
-use native.Mathlib.Omega.{arith}
+-- What the loops that write spaces and a template need.
+use Rattle.std.proofs.Common.{◌≡◌, ℕ, suc, ◌+◌, ◌-◌, ◌<◌, ◌≤◌, false, List, [], ◌∷◌, length, get_or, map, Float, arith}
+use Rattle.std.proofs.lemmas.Grind.{common_steps}
+use Rattle.std.specs.Borrow.{Bor}
 use borrow.Author.Tests.{eq-eqb, ne_eqb}
-use lib.ListN.{length, drop, get_or, drop_of_length-le}
-use lib.Seq.{drop-cons}
-use Rattle.text_lines.specs.Lines.{spaces, same, word_of}
+use Rattle.text_buffer.specs.Text.{Written, wrote}
+use Rattle.text_buffer.specs.laws.Text.{wrote_none, wrote_then}
+use Rattle.text_lines.specs.Lines.{spaces, for_mark, wholes_after, floats_after, fill_from}
 
-pub spaces_next : (w i : ℕ) → i < w → spaces (w - i) ≡ 32 ∷ spaces (w - (i + 1))
-spaces_next w i h =
-    let e : w - i ≡ suc (w - (i + 1)) = omega arith in
-    rw e
-
-pub spaces_none : (w i : ℕ) → w ≤ i → spaces (w - i) ≡ []
-spaces_none w i h =
+pub spaces_none : (t : Written) (w i : ℕ) → w ≤ i → wrote t (spaces (w - i)) ≡ t
+spaces_none t w i h =
     let e : w - i ≡ 0 = omega arith in
-    rw e
+    rw e (wrote_none t)
 
-pub same_yes : (b c : ℕ) → b ≡ c → 1 ≡ same b c
-unfolding same
-same_yes b c e = rw (eq-eqb b c e)
+pub spaces_next : (t : Written) (w i : ℕ) → i < w → wrote t (spaces (w - i)) ≡ wrote (wrote t (32 ∷ [])) (spaces (w - (i + 1)))
+spaces_next t w i h =
+    let e : w - i ≡ suc (w - (i + 1)) = omega arith in
+    rw e (wrote_then t (32 ∷ []) (spaces (w - (i + 1))))
 
-pub same_no : (b c : ℕ) → (b ≡ c → ⊥) → 0 ≡ same b c
-unfolding same
-same_no b c e = rw (ne_eqb b c e)
+pub ruleset padding = (spaces_none, spaces_next)
 
-word_none : (k : ℕ) → word_of k [] ≡ []
-unfolding word_of
-word_none zero = refl
-word_none (suc k) = refl
+-- no word past the last
+pub word_none : (t : Written) (k : ℕ) (words : List (Bor (List ℕ))) → length words ≤ k → wrote t (get_or (map (λ w. w.now) words) k []) ≡ t
+word_none t k words h =
+    let e : get_or (map (λ (w : Bor (List ℕ)). w.now) words) k [] ≡ [] = grind (arith, common_steps) in
+    rw e (wrote_none t)
 
--- past the table's end
-pub word_past : (k i : ℕ) (t : List ℕ) → length t ≤ i → word_of k (drop i t) ≡ []
-word_past k i t h = rw (drop_of_length-le t {i = i} h) (word_none k)
+-- a template from a byte on
+module _ (w : Written) (ns : List ℕ) (xs : List Float) where
+  pub fill_end : (t : List ℕ) → length t ≡ 0 → wrote w (fill_from false t ns xs) ≡ w
+  unfolding fill_from
+  fill_end [] e = wrote_none w
+  fill_end (b ∷ t) e = absurd (omega arith)
 
-word_on : (k b : ℕ) (t : List ℕ) → 0 < k → word_of (k - same b 10) t ≡ word_of k (b ∷ t)
-unfolding word_of
-word_on zero b t h = absurd (omega (arith, h))
-word_on (suc k) b t h = refl
+  pub fill_byte : (t : List ℕ) (b : ℕ) (u : List ℕ) → t ≡ b ∷ u → (b ≡ 37 → ⊥) → wrote w (fill_from false t ns xs) ≡ wrote (wrote w (b ∷ [])) (fill_from false u ns xs)
+  unfolding fill_from
+  fill_byte t b u e n = rw (e, ne_eqb b 37 n) (wrote_then w (b ∷ []) (fill_from false u ns xs))
 
--- one byte on towards the word
-pub word_next : (k i : ℕ) (t : List ℕ) → i < length t → 0 < k → word_of (k - same (get_or t i 0) 10) (drop (i + 1) t) ≡ word_of k (drop i t)
-word_next k i t h some = rw (add-one, drop-cons t i 0 h) (word_on k (get_or t i 0) (drop (suc i) t) some)
+  pub fill_mark : (t : List ℕ) (b c : ℕ) (u : List ℕ) → t ≡ b ∷ c ∷ u → b ≡ 37
+      → wrote w (fill_from false t ns xs) ≡ wrote (wrote w (for_mark c ns xs)) (fill_from false u (wholes_after c ns) (floats_after c xs))
+  unfolding fill_from
+  fill_mark t b c u e p = rw (e, eq-eqb b 37 p) (wrote_then w (for_mark c ns xs) (fill_from false u (wholes_after c ns) (floats_after c xs)))
 
--- the word's end, and a byte of it
-pub word_end : (i : ℕ) (t : List ℕ) → i < length t → get_or t i 0 ≡ 10 → word_of 0 (drop i t) ≡ []
-unfolding word_of
-word_end i t h e = rw (drop-cons t i 0 h, eq-eqb (get_or t i 0) 10 e)
+  pub fill_last : (t : List ℕ) (b : ℕ) (u : List ℕ) → t ≡ b ∷ u → length u ≡ 0 → b ≡ 37 → wrote w (fill_from false t ns xs) ≡ w
+  unfolding fill_from
+  fill_last t b [] e z p = rw (e, eq-eqb b 37 p) (wrote_none w)
+  fill_last t b (c ∷ u) e z p = absurd (omega arith)
 
-pub word_byte : (i : ℕ) (t : List ℕ) → i < length t → (get_or t i 0 ≡ 10 → ⊥) → word_of 0 (drop i t) ≡ get_or t i 0 ∷ word_of 0 (drop (i + 1) t)
-unfolding word_of
-word_byte i t h e = rw (add-one, drop-cons t i 0 h, ne_eqb (get_or t i 0) 10 e)
+pub ruleset filling = (fill_end, fill_byte, fill_mark, fill_last)

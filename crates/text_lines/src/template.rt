@@ -1,98 +1,77 @@
 // A line of a text with numbers in it: a template's bytes as they stand, but for marks of two bytes, `%n`, `%g`, `%1`.
-ghost use Rattle.std.specs.Prelude.{◌≤◌, ◌≡◌, drop};
+ghost use Rattle.std.specs.Prelude.{◌≡◌, drop};
+ghost use Rattle.std.specs.Slice.Iter.{iter_rest};
 ghost use Rattle.text_buffer.specs.Text.{wrote, whole_text};
 ghost use Rattle.text_floats.specs.Floats.{figure_text};
-ghost use Rattle.text_lines.specs.Lines.{next_of, one_decimal, for_mark, floats_for, filled};
+ghost use Rattle.text_lines.specs.Lines.{next_of, one_decimal, for_mark, wholes_after, floats_after, filled};
 
-use crate::words::same;
-use text_buffer::{Place, byte, whole};
+use std::slice::Iter;
+use text_buffer::Text;
 use text_floats::{figure, fixed};
 
-fn next_whole(out: &mut [u8], p: Place, wholes: &[u64], j: usize) -> Place
-    ensures { (out.new, result) ≡ wrote out.old p (next_of whole_text (drop j wholes.now)) }
+#[tactic(auto, using(text_buffer::specs::laws::Text::writing))]
+fn next_whole(out: &mut Text<'_>, wholes: &mut Iter<'_, u64>)
+    ensures text { out.new ≡ wrote out.old (next_of whole_text (iter_rest wholes.old)) }
+    ensures rest { iter_rest wholes.new ≡ drop 1 (iter_rest wholes.old) }
 {
-    if j < wholes.len() {
-        return whole(out, p, wholes[j]);
+    match wholes.next() {
+        Some(n) => out.whole(*n),
+        None => out.byte(b'?'),
     }
-    byte(out, p, 63)
 }
 
-fn next_figure(out: &mut [u8], p: Place, floats: &[f64], k: usize) -> Place
-    ensures { (out.new, result) ≡ wrote out.old p (next_of figure_text (drop k floats.now)) }
+fn next_figure(out: &mut Text<'_>, floats: &mut Iter<'_, f64>)
+    ensures text { out.new ≡ wrote out.old (next_of figure_text (iter_rest floats.old)) }
+    ensures rest { iter_rest floats.new ≡ drop 1 (iter_rest floats.old) }
 {
-    if k < floats.len() {
-        return figure(out, p, floats[k]);
+    match floats.next() {
+        Some(x) => figure(out, *x),
+        None => out.byte(b'?'),
     }
-    byte(out, p, 63)
 }
 
-fn next_fixed(out: &mut [u8], p: Place, floats: &[f64], k: usize) -> Place
-    ensures { (out.new, result) ≡ wrote out.old p (next_of one_decimal (drop k floats.now)) }
+#[tactic(auto, unfolding(crate::specs::Lines::one_decimal))]
+fn next_fixed(out: &mut Text<'_>, floats: &mut Iter<'_, f64>)
+    ensures text { out.new ≡ wrote out.old (next_of one_decimal (iter_rest floats.old)) }
+    ensures rest { iter_rest floats.new ≡ drop 1 (iter_rest floats.old) }
 {
-    if k < floats.len() {
-        return fixed(out, p, floats[k], 1);
+    match floats.next() {
+        Some(x) => fixed(out, *x, 1),
+        None => out.byte(b'?'),
     }
-    byte(out, p, 63)
 }
 
 // What a byte after `%` stands for.
-fn mark(
-    out: &mut [u8],
-    p: Place,
-    c: u8,
-    wholes: &[u64],
-    j: usize,
-    floats: &[f64],
-    k: usize,
-) -> Place
-    ensures { (out.new, result) ≡ wrote out.old p (for_mark c (drop j wholes.now) (drop k floats.now)) }
+#[tactic(auto, unfolding(crate::specs::Lines::for_mark, crate::specs::Lines::wholes_after, crate::specs::Lines::floats_after))]
+fn mark(out: &mut Text<'_>, c: u8, wholes: &mut Iter<'_, u64>, floats: &mut Iter<'_, f64>)
+    ensures text { out.new ≡ wrote out.old (for_mark c (iter_rest wholes.old) (iter_rest floats.old)) }
+    ensures wholes { iter_rest wholes.new ≡ wholes_after c (iter_rest wholes.old) }
+    ensures floats { iter_rest floats.new ≡ floats_after c (iter_rest floats.old) }
 {
-    if c == 110 {
-        return next_whole(out, p, wholes, j);
+    match c {
+        b'n' => next_whole(out, wholes),
+        b'g' => next_figure(out, floats),
+        b'1' => next_fixed(out, floats),
+        _ => out.byte(c),
     }
-    if c == 103 {
-        return next_figure(out, p, floats, k);
-    }
-    if c == 49 {
-        return next_fixed(out, p, floats, k);
-    }
-    byte(out, p, c)
-}
-
-fn floats_for(c: u8) -> usize
-    ensures value { result ≡ floats_for c }
-    ensures upper_bound { result ≤ 1 }
-{
-    if c == 103 {
-        return 1;
-    }
-    same(c, 49)
 }
 
 // The template with the numbers in the place of its marks, each taken once, in order; `?` where none is left.
-pub fn fill(out: &mut [u8], p: Place, template: &[u8], wholes: &[u64], floats: &[f64]) -> Place
-    ensures { (out.new, result) ≡ wrote out.old p (filled template.now wholes.now floats.now) }
+#[tactic(auto, using(crate::proofs::Lines::filling))]
+pub fn fill(out: &mut Text<'_>, template: &[u8], wholes: &[u64], floats: &[f64])
+    ensures { out.new ≡ wrote out.old (filled template.now wholes.now floats.now) }
 {
-    let mut q = p;
-    let mut i = 0;
-    let mut j = 0;
-    let mut k = 0;
-    let mut marked = false;
-    while i < template.len() {
-        let c = template[i];
-        i += 1;
-        if marked {
-            q = mark(out, q, c, wholes, j, floats, k);
-            j += same(c, 110);
-            k += floats_for(c);
-            marked = false;
+    let mut wholes = wholes.iter();
+    let mut floats = floats.iter();
+    let mut bytes = template.iter();
+    while let Some(&b) = bytes.next() {
+        if b != b'%' {
+            out.byte(b);
             continue;
         }
-        if c == 37 {
-            marked = true;
-            continue;
-        }
-        q = byte(out, q, c);
+        let Some(&c) = bytes.next() else {
+            return;
+        };
+        mark(out, c, &mut wholes, &mut floats);
     }
-    q
 }

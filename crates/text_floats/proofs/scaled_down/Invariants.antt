@@ -1,9 +1,6 @@
-use Rattle.std.proofs.Common.{◌≡◌, ◌-◌, ◌≤◌}
+use Rattle.std.proofs.Common.{◌≡◌, ◌-◌}
 use Rattle.text_floats.specs.Floats.{divided}
 use Rattle.text_floats.proofs.scaled_down.Given as goal
 
 abbrev pub invariant-loop-e : goal.invariant-loop-e
-invariant-loop-e l = (l.e ≤ 400) × (divided (400 - l.e) l.e l.m ≡ divided 400 0 l.x)
-
-abbrev pub decreases-loop-e : goal.decreases-loop-e
-decreases-loop-e l = 400 - l.e
+invariant-loop-e l = divided (400 - l.e) l.e l.m ≡ divided 400 0 l.x
