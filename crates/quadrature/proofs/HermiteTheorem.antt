@@ -9,7 +9,7 @@ use lib.Dec.{T, eqb, eqb→eq}
 use lib.ListN.{length, get_or}
 use lib.Ieee.{nan, fin, up, down, of_bits, round, neg}
 use lib.Ieee.Exact.{HasValue}
-use Rattle.quadrature.specs.declared.orders.Order.TheVariants.{Points}
+use Rattle.std.specs.Prelude.{Some}
 use Rattle.quadrature.specs.Orders.{orders, one_of, order_of}
 use Rattle.quadrature.specs.Rules.{z3, z5, z7, z9, z11, w3, w5, w7, w9, w11, nodes_of, weights_of}
 use Rattle.quadrature.specs.Hermite.{over, value_of, He, near_root, apart, sum_of, sum_near_one, RightRule}
@@ -68,7 +68,7 @@ right_rule n known =
     }
 
 -- so whatever is asked for, the rule that is taken is right
-pub taken_rule_right : (asked n : ℕ) → order_of asked ≡ Points n → RightRule n
+pub taken_rule_right : (asked n : ℕ) → order_of asked ≡ Some n → RightRule n
 taken_rule_right asked n e = right_rule n (order_known asked n e)
 
 -- ---- the fraction of a float is its own value, by IEEE's sign, size and exponent
