@@ -1,28 +1,26 @@
 -- A header names the columns; a name that is a known word must stand in its column.
-use Rattle.std.specs.Prelude.{ℕ, ◌-◌, Bool, true, false, ◌&&◌, cond, List, [], ◌∷◌, nat_lt, codes, position, Option, Some, None}
-use Rattle.std.specs.Option.{option_map}
+use Rattle.std.specs.Prelude.{ℕ, ◌-◌, Bool, true, false, ◌&&◌, List, [], ◌∷◌, codes, find, Option, Some, None}
+use Rattle.std.specs.List.{list_any}
 use Rattle.std.specs.Str.{str_eq_ignore_ascii_case}
 use Rattle.math.specs.Parts.{part}
 use Rattle.read_table.specs.Classes.{scan_of}
 use Rattle.read_table.specs.declared.classes.Stop.{Stop}
 use Rattle.read_table.specs.declared.header.Column.{Column}
 
--- five words each for the dose, the grams and the canister: those of a tinting machine, and of R's Orange, Loblolly and DNase
-abbrev pub column_words : List (List ℕ)
-column_words =
-    codes "dose" ∷ codes "doses" ∷ codes "steps" ∷ codes "age" ∷ codes "conc"
-    ∷ codes "grams" ∷ codes "weight" ∷ codes "density" ∷ codes "height" ∷ codes "circumference"
-    ∷ codes "canister" ∷ codes "tree" ∷ codes "seed" ∷ codes "run" ∷ codes "group"
-    ∷ []
+-- five words each: those of a tinting machine, and of R's Orange, Loblolly and DNase
+abbrev pub words_of : Column → List (List ℕ)
+words_of Column.Dose = codes "dose" ∷ codes "doses" ∷ codes "steps" ∷ codes "age" ∷ codes "conc" ∷ []
+words_of Column.Grams = codes "grams" ∷ codes "weight" ∷ codes "density" ∷ codes "height" ∷ codes "circumference" ∷ []
+words_of Column.Canister = codes "canister" ∷ codes "tree" ∷ codes "seed" ∷ codes "run" ∷ codes "group" ∷ []
 
-abbrev pub column_at : ℕ → Column
-column_at n = cond (nat_lt n 5) Column.Dose (cond (nat_lt n 10) Column.Grams Column.Canister)
+-- capitals and small letters alike
+unfoldable pub is_word_of : List ℕ → Column → Bool
+is_word_of word column = list_any (λ w. str_eq_ignore_ascii_case w word) (words_of column)
 
--- the column that the letters from a place on name, capitals and small letters alike; none where they are no known word
+-- the column that the letters from a place on name; none where they are no known word
 unfoldable pub column_of : List ℕ → ℕ → Option Column
 column_of line start =
-    let letters = part start (scan_of Stop.EndOfLetters line start - start) line in
-    option_map column_at (position (λ w. str_eq_ignore_ascii_case w letters) column_words)
+    find (is_word_of (part start (scan_of Stop.EndOfLetters line start - start) line)) (Column.Dose ∷ Column.Grams ∷ Column.Canister ∷ [])
 
 abbrev pub same_column : Column → Column → Bool
 same_column Column.Dose Column.Dose = true

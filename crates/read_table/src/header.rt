@@ -1,9 +1,9 @@
 // A header: which column each of its names means.
 ghost use Rattle.std.specs.Prelude.{◌≡◌, ◌≤◌, length};
-ghost use Rattle.read_table.specs.Header.{column_of, fits_column, in_order};
+ghost use Rattle.read_table.specs.Header.{is_word_of, column_of, fits_column, in_order};
 
 use crate::classes::{Stop, scan};
-use text_lines::find::find_word;
+use text_lines::same::is_among;
 
 #[derive(Clone, Copy, Debug, PartialEq, Eq)]
 pub enum Column {
@@ -12,24 +12,24 @@ pub enum Column {
     Canister,
 }
 
-// Five words for each column.
-const WORDS: [&[u8]; 15] = [
-    b"dose",
-    b"doses",
-    b"steps",
-    b"age",
-    b"conc",
-    b"grams",
-    b"weight",
-    b"density",
-    b"height",
-    b"circumference",
-    b"canister",
-    b"tree",
-    b"seed",
-    b"run",
-    b"group",
-];
+const COLUMNS: [Column; 3] = [Column::Dose, Column::Grams, Column::Canister];
+
+impl Column {
+    // Whether the word, in capitals or small letters, is one of the five that stand for the column.
+    #[tactic(auto, unfolding(crate::specs::Header::is_word_of))]
+    fn has(self, word: &[u8]) -> bool
+        ensures { result ≡ is_word_of word.now self }
+    {
+        match self {
+            Column::Dose => is_among(&[b"dose", b"doses", b"steps", b"age", b"conc"], word),
+            Column::Grams => is_among(
+                &[b"grams", b"weight", b"density", b"height", b"circumference"],
+                word,
+            ),
+            Column::Canister => is_among(&[b"canister", b"tree", b"seed", b"run", b"group"], word),
+        }
+    }
+}
 
 // The column that a field's first letters name, where they are a known word.
 #[tactic(auto, unfolding(crate::specs::Header::column_of))]
@@ -37,13 +37,8 @@ fn column_of(line: &[u8], start: usize) -> Option<Column>
     requires { start ≤ length line.now }
     ensures { result ≡ column_of line.now start }
 {
-    let end = scan(line, start, Stop::EndOfLetters);
-    match find_word(&WORDS, &line[start..end]) {
-        None => None,
-        Some(0..=4) => Some(Column::Dose),
-        Some(5..=9) => Some(Column::Grams),
-        Some(_) => Some(Column::Canister),
-    }
+    let letters = &line[start..scan(line, start, Stop::EndOfLetters)];
+    COLUMNS.iter().copied().find(|column| column.has(letters))
 }
 
 // Whether a field names this column, or none.

@@ -2,6 +2,6 @@
 #![tactic(auto)]
 
 pub mod columns;
-pub mod find;
+pub mod same;
 pub mod template;
 pub mod words;
