@@ -1,8 +1,7 @@
 -- A list's elements, stored one by one: what is stored and what is still to be read make up the list. Assumes nothing.
-use Rattle.std.proofs.Common.{◌≡◌, refl, sym, ap, ◌∙◌, ℕ, suc, ◌+◌, ◌-◌, ◌<◌, ◌≤◌, List, [], ◌∷◌, ◌++◌, length, take, set, Option, Some, None, option_map, option_and_then, arith, le-leb, add-one, append_assoc, append-nil, length-set}
+use Rattle.std.proofs.Common.{◌≡◌, refl, sym, ap, ◌∙◌, ℕ, suc, ◌+◌, ◌-◌, ◌<◌, ◌≤◌, List, [], ◌∷◌, ◌++◌, length, take, set, Option, Some, None, option_map, option_and_then, arith, add-one, append_assoc, append-nil, length-set}
 use Rattle.std.proofs.Math.Seq.{take-suc-set, take-length}
-use Rattle.replay_cases.specs.Words.{word_of, after_word, after_words, elements, list_of}
-use Rattle.replay_cases.specs.Digits.{decimal_of}
+use Rattle.replay_cases.specs.Words.{word_of, after_word, after_words, elements}
 
 -- i of the list's elements are stored; left₀ is what was left before its first element
 pub record Reading {A : Type 0} (value : List ℕ → Option A) (left₀ : Option (List ℕ)) (len : ℕ) (list : List A) (left : Option (List ℕ)) (i : ℕ) : Type 0 where
@@ -49,8 +48,3 @@ module _ {A : Type 0} (value : List ℕ → Option A) (left₀ left : Option (Li
     pub reading_ends_at : left ≡ after_words len left₀
     unfolding after_words
     reading_ends_at = rw none_left at r.place
-
--- a list whose length is n
-pub list_is : {A : Type 0} (value : List ℕ → Option A) (room n : ℕ) (left rest : Option (List ℕ)) → Some n ≡ option_and_then decimal_of (word_of left) → n ≤ room → rest ≡ after_word left → elements value n rest ≡ list_of value room left
-unfolding list_of
-list_is value room n left rest e h q = rw (q, ← e, le-leb n room h)

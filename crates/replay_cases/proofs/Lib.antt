@@ -1,3 +1,4 @@
 pub mod Numbers
 pub mod Elements
+pub mod Saying
 pub mod Equality

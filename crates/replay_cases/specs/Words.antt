@@ -1,6 +1,7 @@
 -- The words of a line, one after the other.
-use Rattle.std.specs.Prelude.{ℕ, zero, suc, ◌+◌, ◌==◌, cond, List, [], ◌∷◌, eqb, leb, length, take, drop, Option, Some, None, option_map, option_and_then}
+use Rattle.std.specs.Prelude.{ℕ, zero, suc, ◌+◌, ◌==◌, Bool, cond, List, [], ◌∷◌, eqb, leb, length, take, drop, Option, Some, None, option_map, option_and_then}
 use Rattle.std.specs.List.{position}
+use Rattle.math.specs.Lists.{same_lists}
 use Rattle.replay_cases.specs.Digits.{decimal_of}
 
 -- a line cut at a place: what stands before it, and what is left after it; without a place nothing is left
@@ -36,3 +37,13 @@ elements value (suc n) left =
 unfoldable pub list_of : {A : Type 0} → (List ℕ → Option A) → ℕ → Option (List ℕ) → Option (List A)
 list_of value room left =
     option_and_then (λ n. cond (leb n room) (elements value n (after_word left)) None) (option_and_then decimal_of (word_of left))
+
+-- whether the next words say these values
+abbrev pub said : {A : Type 0} → (List ℕ → Option A) → (A → A → Bool) → List A → Option (List ℕ) → Option Bool
+said value same values left = option_map (λ xs. same_lists same xs values) (elements value (length values) left)
+
+-- whether the next words say this list; a list of another length is a fault
+unfoldable pub said_list : {A : Type 0} → (List ℕ → Option A) → (A → A → Bool) → List A → Option (List ℕ) → Option Bool
+said_list value same values left =
+    option_and_then (λ n. cond (eqb n (length values)) (said value same values (after_word left)) None)
+    (option_and_then decimal_of (word_of left))

@@ -5,7 +5,8 @@ use crate::lines::Lines;
 use crate::tally::{Operation, Tally, Verdict, verdict_of};
 use crate::words::Words;
 use std::alloc::{AllocError, Global};
-use std::io::BufRead;
+use std::io;
+use std::io::{BufRead, BufReader};
 
 // The place of the operation of this name.
 fn place_of(operations: &[Operation], name: &[u8]) -> Option<usize>
@@ -16,6 +17,8 @@ fn place_of(operations: &[Operation], name: &[u8]) -> Option<usize>
         .position(|operation| operation.name.as_bytes() == name)
 }
 
+// A judge reads the rest of a line after the operation's name and says whether what is computed
+// agrees with what is stored; a line that it does not read to its end is malformed.
 fn verdict<J: Fn(&str, &mut Words<'_>) -> Option<bool>>(
     line: &[u8],
     operations: &[Operation],
@@ -24,13 +27,13 @@ fn verdict<J: Fn(&str, &mut Words<'_>) -> Option<bool>>(
     requires { J.IsAlwaysCallable judge.now }
 {
     let mut words = Words::new(line);
-    match words.word().and_then(|name| place_of(operations, name)) {
-        Some(op) => verdict_of(op, judge(operations[op].name, &mut words)),
-        None => Verdict::Malformed,
-    }
+    let Some(op) = words.word().and_then(|name| place_of(operations, name)) else {
+        return Verdict::Malformed;
+    };
+    let agrees = judge(operations[op].name, &mut words);
+    verdict_of(op, words.end().and(agrees))
 }
 
-// The judge is given an operation's name and the rest of a line after it.
 pub fn replay<B: BufRead + Drop, J: Fn(&str, &mut Words<'_>) -> Option<bool>>(
     alloc: Global,
     input: B,
@@ -50,4 +53,17 @@ pub fn replay<B: BufRead + Drop, J: Fn(&str, &mut Words<'_>) -> Option<bool>>(
         }
     }
     Ok(tally)
+}
+
+// A whole program: standard input replayed, and the tally printed.
+pub fn replay_input<R: Input + Print + AllocGlobal, J: Fn(&str, &mut Words<'_>) -> Option<bool>>(
+    rt: &R,
+    names: &[&'static str],
+    judge: J,
+) -> io::Result<()>
+    requires { J.IsAlwaysCallable judge }
+{
+    let input = BufReader::new(rt.alloc(), rt.reader())?;
+    let tally = replay(rt.alloc(), input, names, judge)?;
+    print!(rt; "{tally}")
 }
