@@ -1,16 +1,39 @@
 -- The curve of a code, alone and with a group's effects (mean_fn.rs).
-use Rattle.std.specs.Prelude.{ℕ, cond, List, [], ◌∷◌, eqb, Float, get_or, set}
+use Rattle.std.specs.Prelude.{ℕ, ◌≡◌, Bool, true, ◌||◌, cond, Option, Some, None, Result, MatchResult, List, [], ◌∷◌, eqb, ltb, Float, get_or, set}
 use Rattle.std.specs.Float.{nan}
 use Rattle.math.specs.Basic.{add}
+use Rattle.refusal.specs.declared.Refusal.{Refusal}
+use Rattle.refusal.specs.declared.Refusal.TheVariants.{Code}
+use Rattle.curves.specs.declared.mean_fn.Curve.{Curve}
+use Rattle.curves.specs.declared.mean_fn.Curve.TheVariants.{Sslogis, Ssasymp, Ssmicmen, Ssfpl}
 use Rattle.curves.specs.declared.Mean.{Mean}
 use Rattle.curves.specs.Sslogis.{sslogis_of}
 use Rattle.curves.specs.Ssasymp.{ssasymp_of}
 use Rattle.curves.specs.Ssmicmen.{ssmicmen_of}
 use Rattle.curves.specs.Ssfpl.{ssfpl_of}
 
+-- each curve's code
+abbrev pub code_of : Curve → ℕ
+code_of Sslogis = 1
+code_of Ssasymp = 2
+code_of Ssmicmen = 3
+code_of Ssfpl = 4
+
+-- no curve has the code
+abbrev pub no_curve : ℕ → Bool
+no_curve code = ltb code 1 || ltb 4 code
+
+-- the result is the curve of the code, or refuses 1 a code that no curve has
+abbrev pub Decodes : ℕ → Result Curve Refusal → Type 0
+Decodes code r = MatchResult r (λ curve. code_of curve ≡ code) (λ e. (e ≡ Code) × (no_curve code ≡ true))
+
 -- `n_params`, p: 3, 3, 2, 4
 unfoldable pub n_params_of : ℕ → ℕ
 n_params_of code = cond (eqb code 3) 2 (cond (eqb code 4) 4 3)
+
+-- where scal stands among the values of a curve that `needs_positive_scal`: the third of curve 1, the fourth of curve 4
+unfoldable pub scal_index_of : ℕ → Option ℕ
+scal_index_of code = cond (eqb code 1) (Some 2) (cond (eqb code 4) (Some 3) None)
 
 -- `eval`, at the values of a list
 unfoldable pub eval_of : ℕ → List Float → Float → Mean

@@ -1,86 +1,114 @@
-// The curve of a code, and the curve of a reading whose group has effects. Four places hold a curve's
+// A curve's values, and the curve of a reading whose group has effects. Four places hold a curve's
 // values; those past its last are not read.
 ghost use Rattle.std.specs.Prelude.{◌≡◌};
-ghost use Rattle.curves.specs.MeanFn.{n_params_of, eval_of, add_at, effective_of, eval_with_re_of};
+ghost use Rattle.curves.specs.MeanFn.{Decodes, code_of, n_params_of, scal_index_of, eval_of, effective_of, eval_with_re_of};
 
 use crate::Mean;
 use crate::ssasymp::ssasymp_eval;
 use crate::ssfpl::ssfpl_eval;
 use crate::sslogis::sslogis_eval;
 use crate::ssmicmen::ssmicmen_eval;
+use refusal::Refusal;
 
-// How many values a curve has.
-pub fn n_params(code: u64) -> usize
-    ensures { result ≡ n_params_of code }
-{
-    match code {
-        3 => 2,
-        4 => 4,
-        _ => 3,
+// The curves, in the order of their codes. The Rust's enum is `NlmmMeanKind`, with these names.
+#[derive(Clone, Copy, Debug, PartialEq, Eq)]
+pub enum Curve {
+    Sslogis,
+    Ssasymp,
+    Ssmicmen,
+    Ssfpl,
+}
+
+impl TryFrom<u64> for Curve {
+    type Error = Refusal;
+
+    ghost try_from_gives = { Decodes };
+
+    fn try_from(code: u64) -> Result<Self, Refusal> {
+        match code {
+            1 => Ok(Curve::Sslogis),
+            2 => Ok(Curve::Ssasymp),
+            3 => Ok(Curve::Ssmicmen),
+            4 => Ok(Curve::Ssfpl),
+            _ => Err(Refusal::Code),
+        }
     }
 }
 
-// A code that no curve has is taken for 4: `curve` and the fit refuse it before.
-pub fn eval(code: u64, x: f64, params: [f64; 4]) -> Mean
-    ensures { result ≡ eval_of code params x }
-{
-    match code {
-        1 => sslogis_eval(params[0], params[1], params[2], x),
-        2 => ssasymp_eval(params[0], params[1], params[2], x),
-        3 => ssmicmen_eval(params[0], params[1], x),
-        _ => ssfpl_eval(params[0], params[1], params[2], params[3], x),
+impl Curve {
+    // The code that `try_from` takes for this curve.
+    pub fn code(self) -> u64
+        ensures { result ≡ code_of self }
+    {
+        match self {
+            Curve::Sslogis => 1,
+            Curve::Ssasymp => 2,
+            Curve::Ssmicmen => 3,
+            Curve::Ssfpl => 4,
+        }
+    }
+
+    // How many values the curve has.
+    #[tactic(auto, unfolding(crate::specs::MeanFn::n_params_of))]
+    pub fn n_params(self) -> usize
+        ensures { result ≡ n_params_of (code_of self) }
+    {
+        match self {
+            Curve::Sslogis | Curve::Ssasymp => 3,
+            Curve::Ssmicmen => 2,
+            Curve::Ssfpl => 4,
+        }
+    }
+
+    // Which value is `scal`, where the Rust's `needs_positive_scal` says that it must stay positive.
+    #[tactic(auto, unfolding(crate::specs::MeanFn::scal_index_of))]
+    pub fn scal_index(self) -> Option<usize>
+        ensures { result ≡ scal_index_of (code_of self) }
+    {
+        match self {
+            Curve::Sslogis => Some(2),
+            Curve::Ssfpl => Some(3),
+            Curve::Ssasymp | Curve::Ssmicmen => None,
+        }
+    }
+
+    #[tactic(auto, unfolding(crate::specs::MeanFn::eval_of))]
+    pub fn eval(self, x: f64, params: [f64; 4]) -> Mean
+        ensures { result ≡ eval_of (code_of self) params x }
+    {
+        match self {
+            Curve::Sslogis => sslogis_eval(params[0], params[1], params[2], x),
+            Curve::Ssasymp => ssasymp_eval(params[0], params[1], params[2], x),
+            Curve::Ssmicmen => ssmicmen_eval(params[0], params[1], x),
+            Curve::Ssfpl => ssfpl_eval(params[0], params[1], params[2], params[3], x),
+        }
+    }
+
+    // The curve at the values with each effect added at its index.
+    #[tactic(auto, unfolding(crate::specs::MeanFn::eval_with_re_of))]
+    pub fn eval_mean_with_re(
+        self,
+        x: f64,
+        params: [f64; 4],
+        re_param_indices: &[usize],
+        re_offsets: &[f64],
+    ) -> Mean
+        ensures { result ≡ eval_with_re_of (code_of self) params re_param_indices.now re_offsets.now x }
+    {
+        self.eval(x, effective(params, re_param_indices, re_offsets))
     }
 }
 
-fn add_at(params: [f64; 4], i: usize, offset: f64) -> [f64; 4]
-    ensures { result ≡ add_at i offset params }
-{
-    let mut v = params;
-    if i == 0 {
-        v[0] = v[0] + offset;
-        return v;
-    }
-    if i == 1 {
-        v[1] = v[1] + offset;
-        return v;
-    }
-    if i == 2 {
-        v[2] = v[2] + offset;
-        return v;
-    }
-    if i == 3 {
-        v[3] = v[3] + offset;
-        return v;
-    }
-    v
-}
-
-// The values with each effect added at its index.
+// The values with each effect added at its index; an index past the fourth value adds nothing.
+#[tactic(auto, using(crate::proofs::Laws::effective_none, crate::proofs::Laws::effective_short, std::proofs::lemmas::List::set_past), unfolding(crate::specs::MeanFn::effective_of))]
 fn effective(params: [f64; 4], indices: &[usize], offsets: &[f64]) -> [f64; 4]
     ensures { result ≡ effective_of indices.now offsets.now params }
 {
     let mut v = params;
-    let mut r = 0usize;
-    while r < indices.len() {
-        if r >= offsets.len() {
-            return v;
+    for (&i, &offset) in indices.iter().zip(offsets) {
+        if i < v.len() {
+            v[i] += offset;
         }
-        let w = add_at(v, indices[r], offsets[r]);
-        v = w;
-        r += 1;
     }
     v
-}
-
-pub fn eval_mean_with_re(
-    code: u64,
-    x: f64,
-    params: [f64; 4],
-    re_param_indices: &[usize],
-    re_offsets: &[f64],
-) -> Mean
-    ensures { result ≡ eval_with_re_of code params re_param_indices.now re_offsets.now x }
-{
-    let v = effective(params, re_param_indices, re_offsets);
-    eval(code, x, v)
 }

@@ -4,6 +4,7 @@ ghost use Rattle.curves.specs.Ssasymp.{ssasymp_of};
 
 use crate::Mean;
 
+#[tactic(auto, unfolding(crate::specs::Ssasymp::ssasymp_of))]
 pub fn ssasymp_eval(asym: f64, r0: f64, lrc: f64, x: f64) -> Mean
     ensures { result ≡ ssasymp_of asym r0 lrc x }
 {

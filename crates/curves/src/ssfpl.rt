@@ -5,6 +5,7 @@ ghost use Rattle.curves.specs.Ssfpl.{ssfpl_of};
 use crate::Mean;
 use crate::sslogis::{logistic_parts, scal_gradient};
 
+#[tactic(auto, unfolding(crate::specs::Ssfpl::ssfpl_of))]
 pub fn ssfpl_eval(a: f64, b: f64, xmid: f64, scal: f64, x: f64) -> Mean
     ensures { result ≡ ssfpl_of a b xmid scal x }
 {

@@ -13,6 +13,7 @@ pub struct Logistic {
 
 // The logistic fraction of t, its complement, and the size of the derivative. The smaller tail is
 // worked out directly, so that no exponential overflows.
+#[tactic(auto, unfolding(crate::specs::Sslogis::parts_of))]
 pub fn logistic_parts(t: f64) -> Logistic
     ensures { result ≡ parts_of t }
 {
@@ -20,21 +21,20 @@ pub fn logistic_parts(t: f64) -> Logistic
     let denom = 1.0 + e;
     let small = e / denom;
     let large = 1.0 / denom;
-    if t >= 0.0 {
-        return Logistic {
-            fraction: small,
-            complement: large,
-            slope: small * large,
-        };
-    }
+    let (fraction, complement) = if t >= 0.0 {
+        (small, large)
+    } else {
+        (large, small)
+    };
     Logistic {
-        fraction: large,
-        complement: small,
+        fraction,
+        complement,
         slope: small * large,
     }
 }
 
 // The gradient by scal: +0 where t is infinite and the slope 0, whose product would be a NaN.
+#[tactic(auto, unfolding(crate::specs::Sslogis::scal_gradient))]
 pub fn scal_gradient(t: f64, slope: f64, scaled_slope: f64) -> f64
     ensures { result ≡ scal_gradient t slope scaled_slope }
 {
@@ -45,6 +45,7 @@ pub fn scal_gradient(t: f64, slope: f64, scaled_slope: f64) -> f64
     }
 }
 
+#[tactic(auto, unfolding(crate::specs::Sslogis::sslogis_of))]
 pub fn sslogis_eval(a: f64, xmid: f64, scal: f64, x: f64) -> Mean
     ensures { result ≡ sslogis_of a xmid scal x }
 {

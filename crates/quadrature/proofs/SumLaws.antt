@@ -1,25 +1,15 @@
--- A loop over a list is a fold over what is left of it; and the cases of log_sum_exp by computation. Assumes nothing.
-use mathlib.Core.Path.{◌≡◌}
-use mathlib.Core.Bool.{Bool, true, false}
-use mathlib.Core.List.{List, [], ◌∷◌, foldl}
-use Prim.Native.Nat.{ℕ, ◌+◌, ◌≤◌, ◌<◌}
-use native.Mathlib.Numerals.{add-one}
-use lib.Dec.{T, eqb}
-use lib.ListN.{length, get_or, drop, drop_of_length-le}
-use lib.Seq.{drop-cons}
-use lib.Ieee.{Float, nan, inf, binary64, to_bits, is_nan}
+-- The constant -infinity, and the cases of log_sum_exp by computation. Assumes nothing.
+use Rattle.std.specs.Prelude.{ℕ, ◌≡◌, refl, Bool, true, false, List, [], ◌∷◌, T, eqb, Float}
+use Rattle.std.specs.Float.{nan, inf, binary64}
+use lib.Ieee.{to_bits, of_bits, is_nan}
 use Rattle.math.specs.Basic.{zero, max_of, is_finite}
-use Rattle.math.specs.laws.Computes.{exp_computes}
-use Rattle.math.specs.laws.Computes.{ln_computes}
+use Rattle.math.specs.laws.Computes.{exp_computes, ln_computes}
 use Rattle.quadrature.specs.Sums.{log_sum_exp}
-use Rattle.quadrature.proofs.HermiteTheorem.{all}
+use Rattle.std.specs.List.{list_all}
 
--- ---- one turn of a loop over a list, and its end
-pub foldl_go : (f : Float → Float → Float) (a : Float) (xs : List Float) (i : ℕ) → i < length xs → foldl f a (drop i xs) ≡ foldl f (f a (get_or xs i nan)) (drop (i + 1) xs)
-foldl_go f a xs i h = rw (add-one, drop-cons xs i nan)
-
-pub foldl_done : (f : Float → Float → Float) (a : Float) (xs : List Float) (i : ℕ) → length xs ≤ i → foldl f a (drop i xs) ≡ a
-foldl_done f a xs i h = rw (drop_of_length-le xs h)
+pub negative_infinity : of_bits binary64 0xfff0_0000_0000_0000 ≡ inf true
+unfolding of_bits
+negative_infinity = refl
 
 -- ---- of no terms, of NaNs alone and with an infinity: -infinity; a NaN beside a number: a NaN; of 0: 0; of 0 and 0: ln 2
 pub record Row : Type 0 where
@@ -40,6 +30,6 @@ rows =
 unfoldable pub row_right : Row → Bool
 row_right r = eqb (to_bits binary64 (log_sum_exp r.terms)) r.pattern
 
-pub rows_right : T (all row_right rows)
-unfolding exp_computes ln_computes log_sum_exp max_of is_finite is_nan to_bits all row_right
+pub rows_right : T (list_all row_right rows)
+unfolding exp_computes ln_computes log_sum_exp max_of is_finite is_nan to_bits row_right
 rows_right = tt

@@ -1,82 +1,70 @@
 // Which rule is taken for the number of points asked for.
-ghost use Rattle.std.specs.Prelude.{◌≡◌, ◌^◌, ◌≤◌, leb};
+ghost use Rattle.std.specs.Prelude.{◌≡◌, ◌^◌, ◌&&◌, leb, find, reverse};
 ghost use Rattle.quadrature.specs.Orders.{order_of, order_or_zero, max_points, product_of};
 
-// The Rust's Option<usize>: a rule's number of points, or that there is none.
-// It is an enum and no 0, so that a caller has to say what is done without a rule.
-#[derive(Clone, Copy)]
-pub enum Order {
-    None,
-    Points(usize),
+// The numbers of points that have a rule.
+const SUPPORTED: [usize; 5] = [3, 5, 7, 9, 11];
+
+fn first_not_below(n: u64) -> Option<usize>
+    ensures { result ≡ find (λ s. leb n s) SUPPORTED }
+{
+    SUPPORTED.iter().copied().find(|&s| n <= s as u64)
 }
 
 // The first of 3, 5, 7, 9 and 11 that is not below n_agq; 11 above 11.
-pub fn resolve_gh_order(n_agq: u64) -> Order
+#[tactic(auto, unfolding(crate::specs::Orders::order_of))]
+pub fn resolve_gh_order(n_agq: u64) -> Option<usize>
     ensures { result ≡ order_of n_agq }
 {
     if n_agq < 2 {
-        return Order::None;
+        return None;
     }
-    if n_agq <= 3 {
-        return Order::Points(3);
-    }
-    if n_agq <= 5 {
-        return Order::Points(5);
-    }
-    if n_agq <= 7 {
-        return Order::Points(7);
-    }
-    if n_agq <= 9 {
-        return Order::Points(9);
-    }
-    Order::Points(11)
+    Some(first_not_below(n_agq).unwrap_or(11))
 }
 
 // For the C boundary, which has no enum: 0 where no rule applies.
 pub fn gh_order(n_agq: u64) -> u64
     ensures { result ≡ order_or_zero n_agq }
 {
-    let Order::Points(n) = resolve_gh_order(n_agq) else {
-        return 0;
-    };
-    n as u64
+    resolve_gh_order(n_agq).map_or(0, |n| n as u64)
 }
 
 const MAX_POINTS: usize = 400;
 
 // Whether k dimensions of ord points each have no more than MAX_POINTS points. It stops at the first power above.
+#[tactic(auto, using(crate::proofs::OrderLaws::power_above))]
 fn power_fits(ord: usize, k: usize) -> bool
-    requires { (2 ≤ ord) × (ord ≤ 11) }
     ensures { result ≡ leb (ord ^ k) max_points }
 {
     let mut p = 1usize;
-    let mut i = 0usize;
-    while i < k {
-        p = p * ord;
+    for _ in 0..k {
+        p = p.saturating_mul(ord);
         if p > MAX_POINTS {
             return false;
         }
-        i += 1;
     }
     true
 }
 
+// The largest order up to base whose points in k dimensions are no more than MAX_POINTS.
+fn last_that_fits(base: usize, k: usize) -> Option<usize>
+    ensures { result ≡ find (λ o. leb o base && leb (o ^ k) max_points) (reverse SUPPORTED) }
+{
+    SUPPORTED
+        .iter()
+        .rev()
+        .copied()
+        .find(|&ord| ord <= base && power_fits(ord, k))
+}
+
 // The order in each of k dimensions, lowered until their product has no more than MAX_POINTS points.
-pub fn resolve_gh_order_product(n_agq: u64, k: usize) -> Order
+#[tactic(auto, using(crate::proofs::OrderLaws::capped_found), unfolding(crate::specs::Orders::capped_order))]
+pub fn resolve_gh_order_product(n_agq: u64, k: usize) -> Option<usize>
     ensures { result ≡ product_of n_agq k }
 {
-    let Order::Points(base) = resolve_gh_order(n_agq) else {
-        return Order::None;
-    };
+    let base = resolve_gh_order(n_agq)?;
     if k == 1 {
-        return Order::Points(base);
+        return Some(base);
     }
-    let mut ord = base;
-    while ord > 1 {
-        if power_fits(ord, k) {
-            return Order::Points(ord);
-        }
-        ord = ord - 2;
-    }
-    Order::None
+    last_that_fits(base, k)
 }
