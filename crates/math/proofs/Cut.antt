@@ -1,5 +1,5 @@
 -- A float between two neighbouring whole numbers, its fraction dropped, is the one nearer to 0. Assumes nothing.
-use Rattle.std.proofs.Common.{◌≡◌, ℕ, suc, ◌+◌, ◌-◌, ◌*◌, ◌/◌, ◌%◌, ◌^◌, ◌<◌, min, Bool, true, false, cond, T, eqb, ltb, ℤ, pos, negsuc, ◌+ℤ◌, ◌-ℤ◌, neg_ℤ, sym, refl, ap, ◌∙◌, subst, lt_of_lt_of_le, le_of_lt, mul-le-mul_right, lt_of_mul-lt-mul_right, mul-one, mul_right_comm, arith, to_z-of_z, w64, SFits, to_z, of_z, ltb-true, lt-ltb, le-leb}
+use Rattle.std.proofs.Common.{◌≡◌, ℕ, suc, ◌+◌, ◌-◌, ◌*◌, ◌/◌, ◌^◌, ◌<◌, min, Bool, true, false, cond, T, ltb, ℤ, pos, negsuc, ◌+ℤ◌, ◌-ℤ◌, neg_ℤ, sym, refl, ap, ◌∙◌, subst, lt_of_lt_of_le, le_of_lt, mul-le-mul_right, lt_of_mul-lt-mul_right, mul-one, mul_right_comm, arith, to_z-of_z, w64, SFits, to_z, of_z, ltb-true, lt-ltb, le-leb}
 use native.Mathlib.Nat.{div-eq_of_lt-le}
 use lib.Signed.{mag, le_z}
 use lib.Ieee.{Float, nan, inf, fin, binary64, up, down, lt, le, to_signed, of_int, round}
@@ -7,7 +7,7 @@ use lib.Ieee.Back.{round_whole}
 use lib.Ieee.Exact.{HasValue}
 use lib.Ieee.Fits.{down_pos}
 use Rattle.math.proofs.Basic.{clash, clash'}
-use Rattle.math.proofs.Ints.{mag_add, small_is, sfits_small}
+use Rattle.math.proofs.Ints.{mag_add, sfits_small}
 use Rattle.math.specs.Words.{to_int}
 
 -- ---- a whole number n, as A / a, beside X / x
@@ -134,43 +134,9 @@ cut_is k n v a b l hn ha hb h t =
     (subst (λ (z : Float). T (lt v z)) (hb ∙ ap (λ (z : ℤ). of_int binary64 (z +ℤ pos 1)) hn) t)
 
 -- ---- the numbers of the code are small
-guess_small : (z : ℤ) (n : ℕ) → n < 4096 → z ≡ pos n → mag (z -ℤ pos 2048) < 8192
-guess_small z n h e = subst (λ (y : ℤ). mag (y -ℤ pos 2048) < 8192) (sym e) (omega (arith, mag_add (pos n) (negsuc 2047)))
-
-guess_at : (b : ℕ) → mag (to_z w64 (b % 4096) -ℤ pos 2048) < 8192
-guess_at b = guess_small (to_z w64 (b % 4096)) (b % 4096) (omega arith) (small_is (b % 4096) (omega arith))
-
-pub guess_fits : (b : ℕ) → SFits w64 (to_z w64 (b % 4096) -ℤ pos 2048)
-guess_fits b = sfits_small (to_z w64 (b % 4096) -ℤ pos 2048) (omega (arith, guess_at b))
-
-pub guess_in : (b : ℕ) → mag (to_z w64 (of_z w64 (to_z w64 (b % 4096) -ℤ pos 2048))) < 8192
-guess_in b = subst (λ (z : ℤ). mag z < 8192) (sym (to_z-of_z (guess_fits b))) (guess_at b)
-
-module _ (k z : ℤ) (e : z ≡ k) (h : mag k < 8192) where
-  less_small : mag (z -ℤ pos 1) < 8194
-  less_small = subst (λ (y : ℤ). mag (y -ℤ pos 1) < 8194) (sym e) (omega (arith, mag_add k (negsuc 0)))
-
-  pub less_fits : SFits w64 (z -ℤ pos 1)
-  less_fits = sfits_small (z -ℤ pos 1) (omega (arith, less_small))
-
-  pub lesser_same : le_z (pos 0) z ≡ true → (mag z < 8200) × (z ≡ lesser k)
-  lesser_same t = let q : le_z (pos 0) k ≡ true = rw e at t in (subst (λ (y : ℤ). mag y < 8200) (sym e) (omega (arith, h)), e ∙ rw q)
-
-  pub lesser_next : le_z (pos 0) z ≡ false → (y : ℤ) → y ≡ z -ℤ pos 1 → (mag y < 8200) × (y ≡ lesser k)
-  lesser_next t y d =
-      let q : le_z (pos 0) k ≡ false = rw e at t in
-      (subst (λ (x : ℤ). mag x < 8200) (sym d) (omega (arith, less_small)), d ∙ ap (λ (x : ℤ). x -ℤ pos 1) e ∙ rw q)
-
 module _ (n z : ℤ) (e : z ≡ n) (h : mag n < 8200) where
   pub more_fits : SFits w64 (z +ℤ pos 1)
   more_fits = sfits_small (z +ℤ pos 1) (subst (λ (y : ℤ). mag (y +ℤ pos 1) < 2 ^ 20) (sym e) (omega (arith, mag_add n (pos 1))))
 
 pub small_back : (z : ℤ) → mag z < 8200 → to_z w64 (of_z w64 z) ≡ z
 small_back z h = to_z-of_z (sfits_small z (omega (arith, h)))
-
-pub unit_back : (s : ℕ) (r : ℤ) → r ≡ cond (eqb s 0) (pos 1) (negsuc 0) → to_z w64 (of_z w64 r) ≡ r
-unit_back s r e = small_back r (subst (λ (z : ℤ). mag z < 8200) (sym e) (go (eqb s 0)))
-  where
-    go : (t : Bool) → mag (cond t (pos 1) (negsuc 0)) < 8200
-    go true = omega arith
-    go false = omega arith

@@ -1,6 +1,7 @@
 -- What the test of an estimated root goes by: the square of s, of at most 53 digits, is u * 2 ^ 52 + w, taken apart at 26 digits; and only one whole number is
 -- nearest to a root. Assumes nothing.
-use Rattle.std.proofs.Common.{◌≡◌, ℕ, ◌+◌, ◌-◌, ◌*◌, ◌/◌, ◌%◌, ◌^◌, ◌<◌, ◌≤◌, Bool, true, false, cond, ltb, sym, refl, ap, ◌∙◌, mul_assoc, mul_comm, add-mul, mul-le-mul, mul-le-mul_left, mul-add, mul_left_comm, arith, ltb-false, ltb-true}
+use Rattle.std.proofs.Common.{◌≡◌, ℕ, ◌+◌, ◌-◌, ◌*◌, ◌/◌, ◌%◌, ◌^◌, ◌<◌, ◌≤◌, Bool, true, false, ltb, sym, refl, ap, ◌∙◌, mul_assoc, mul_comm, add-mul, mul-le-mul, mul-le-mul_left, mul-add, mul_left_comm, arith, ltb-false, ltb-true}
+use Rattle.std.specs.Int.{from_bool}
 use Rattle.math.specs.Sqrt.{root, nearest_root}
 use Rattle.math.proofs.Nearest.{Near, nearest_right}
 
@@ -28,16 +29,6 @@ module _ (s : ℕ) where
           let hl : h * 2 ^ 26 * l ≡ h * l * 2 ^ 26 = simp (mul_assoc, mul_comm, mul_left_comm) in
           rw e (omega (arith, x, hh, lh, hl))
 
-  module _ (fits : s ≤ 2 ^ 53) where
-    pub cross_small : high * low ≤ 2 ^ 53
-    cross_small = mul-le-mul {n₂ = 2 ^ 27} {m₂ = 2 ^ 26} (omega arith) (omega arith)
-
-    pub high_small : high * high ≤ 2 ^ 54
-    high_small = mul-le-mul {n₂ = 2 ^ 27} {m₂ = 2 ^ 27} (omega arith) (omega arith)
-
-    pub low_small : low * low ≤ 2 ^ 52
-    low_small = mul-le-mul {n₂ = 2 ^ 26} {m₂ = 2 ^ 26} (omega arith) (omega arith)
-
 -- what lies between the square and m * 2 ^ 52
 pub apart_by : (m s : ℕ) → whole s ≤ m + 4 → (m + 4 - whole s) * 2 ^ 52 + s * s ≡ m * 2 ^ 52 + (rest s + 2 ^ 54)
 apart_by m s h = omega (arith, square_is s)
@@ -48,26 +39,26 @@ module _ (m s n q : ℕ) (two : 2 ≤ s) (e : n + s * s ≡ m * 2 ^ 52 + q) (low
   next_square r s h = rw h (omega (arith, add-mul s 1 (s + 1), mul-add s s 1))
 
   abbrev Tested : ℕ → Type 0
-  Tested r = (r * r < m * 2 ^ 52 + r) × (m * 2 ^ 52 ≤ r * r + r)
+  Tested r = ((r * r < m * 2 ^ 52 + r) × (m * 2 ^ 52 ≤ r * r + r)) × (r ≤ s + 1)
 
-  pub neighbour : (r a b : ℕ) → a ≡ cond (ltb (q + s) n) 1 0 → b ≡ cond (ltb q (n + s)) 1 0 → r ≡ s + a + b - 1 → Tested r
+  pub neighbour : (r a b : ℕ) → a ≡ from_bool (ltb (q + s) n) → b ≡ from_bool (ltb q (n + s)) → r ≡ s + a + b - 1 → Tested r
   neighbour r a b = by_tests (ltb (q + s) n) refl (ltb q (n + s)) refl
     where
-      by_tests : (t : Bool) → ltb (q + s) n ≡ t → (u : Bool) → ltb q (n + s) ≡ u → a ≡ cond t 1 0 → b ≡ cond u 1 0 → r ≡ s + a + b - 1 → Tested r
+      by_tests : (t : Bool) → ltb (q + s) n ≡ t → (u : Bool) → ltb q (n + s) ≡ u → a ≡ from_bool t → b ≡ from_bool u → r ≡ s + a + b - 1 → Tested r
       by_tests true g true f ea eb h =
           let z : r ≡ s + 1 = omega (arith, ea, eb, h) in
           let v : r * r ≡ s * s + 2 * s + 1 = next_square r s z in
           let w : q + s < n = ltb-true (q + s) n g in
-          (omega (arith, v, w, z, e), omega (arith, v, z, e, top))
+          ((omega (arith, v, w, z, e), omega (arith, v, z, e, top)), omega (arith, z))
       by_tests true g false f ea eb h = absurd (omega (arith, ltb-true (q + s) n g, ltb-false q (n + s) f))
       by_tests false g true f ea eb h =
           let z : r ≡ s = omega (arith, ea, eb, h) in
           let v : r * r ≡ s * s = ap (λ (x : ℕ). x * x) z in
-          (omega (arith, v, z, e, ltb-true q (n + s) f), omega (arith, v, z, e, ltb-false (q + s) n g))
+          ((omega (arith, v, z, e, ltb-true q (n + s) f), omega (arith, v, z, e, ltb-false (q + s) n g)), omega (arith, z))
       by_tests false g false f ea eb h =
           let z : s ≡ r + 1 = omega (arith, ea, eb, h) in
           let v : s * s ≡ r * r + 2 * r + 1 = next_square s r z in
-          (omega (arith, v, z, e, low), omega (arith, v, z, e, ltb-false q (n + s) f))
+          ((omega (arith, v, z, e, low), omega (arith, v, z, e, ltb-false q (n + s) f)), omega (arith, z))
 
 -- two that are nearest to the root of n are one
 no_less : (s t n : ℕ) → Near s n → Near t n → s < t → ⊥

@@ -1,10 +1,10 @@
 -- Tests of lists, element by element.
 use Rattle.std.specs.Prelude.{ℕ, Bool, true, false, ◌&&◌, List, [], ◌∷◌, nat_eq}
+use Rattle.std.specs.List.{list_all}
 
 -- each element passes the test
-unfoldable pub every : {A : Type 0} → (A → Bool) → List A → Bool
-every t [] = true
-every t (x ∷ xs) = t x && every t xs
+abbrev pub every : {A : Type 0} → (A → Bool) → List A → Bool
+every = list_all
 
 -- the same length, and the same by the test at each place
 unfoldable pub same_lists : {A : Type 0} → (A → A → Bool) → List A → List A → Bool

@@ -10,22 +10,18 @@ use lib.ListN.{length, get_or}
 use lib.Ieee.{nan, fin, up, down, of_bits, round, neg}
 use lib.Ieee.Exact.{HasValue}
 use Rattle.std.specs.Prelude.{Some}
+use Rattle.std.specs.List.{list_all}
 use Rattle.quadrature.specs.Orders.{orders, one_of, order_of}
 use Rattle.quadrature.specs.Rules.{z3, z5, z7, z9, z11, w3, w5, w7, w9, w11, nodes_of, weights_of}
 use Rattle.quadrature.specs.Hermite.{over, value_of, He, near_root, apart, sum_of, sum_near_one, RightRule}
 use Rattle.quadrature.proofs.OrderLaws.{order_known}
 
 -- ---- the test
-module _ {A : Type 0} where
-  unfoldable pub all : (A → Bool) → List A → Bool
-  all f [] = true
-  all f (x ∷ xs) = f x && all f xs
-
 unfoldable tested : ℕ → Bool
-tested n = (eqb (length (nodes_of n)) n && (all (near_root n) (nodes_of n) && apart (nodes_of n))) && (eqb (length (weights_of n)) n && sum_near_one (weights_of n))
+tested n = (eqb (length (nodes_of n)) n && (list_all (near_root n) (nodes_of n) && apart (nodes_of n))) && (eqb (length (weights_of n)) n && sum_near_one (weights_of n))
 
-all_tested : T (all tested orders)
-unfolding z3 z5 z7 z9 z11 w3 w5 w7 w9 w11 nodes_of weights_of value_of He near_root apart sum_of sum_near_one all tested round of_bits neg
+all_tested : T (list_all tested orders)
+unfolding z3 z5 z7 z9 z11 w3 w5 w7 w9 w11 nodes_of weights_of value_of He near_root apart sum_of sum_near_one tested round of_bits neg
 all_tested = tt
 
 -- ---- a conjunction's parts, and a test of all at one
@@ -34,19 +30,18 @@ both true b t = (tt, t)
 both false b t = absurd t
 
 module _ {A : Type 0} (f : A → Bool) (d : A) where
-  all_at : (xs : List A) → T (all f xs) → (i : ℕ) → i < length xs → T (f (get_or xs i d))
-  unfolding all
+  all_at : (xs : List A) → T (list_all f xs) → (i : ℕ) → i < length xs → T (f (get_or xs i d))
   all_at [] t i h = absurd (not-suc-le-zero h)
-  all_at (x ∷ xs) t zero h = (both (f x) (all f xs) t).0
-  all_at (x ∷ xs) t (suc i) h = all_at xs (both (f x) (all f xs) t).1 i (le_of_suc-le-suc h)
+  all_at (x ∷ xs) t zero h = (both (f x) (list_all f xs) t).0
+  all_at (x ∷ xs) t (suc i) h = all_at xs (both (f x) (list_all f xs) t).1 i (le_of_suc-le-suc h)
 
 module _ (f : ℕ → Bool) (n : ℕ) where
-  at_head : (b : Bool) (m : ℕ) (ms : List ℕ) → eqb n m ≡ b → T (b || one_of n ms) → T (f m && all f ms) → (T (one_of n ms) → T (all f ms) → T (f n)) → T (f n)
-  at_head true m ms e h t ih = subst (λ (k : ℕ). T (f k)) (sym (eqb→eq n m (subst T (sym e) tt))) (both (f m) (all f ms) t).0
-  at_head false m ms e h t ih = ih h (both (f m) (all f ms) t).1
+  at_head : (b : Bool) (m : ℕ) (ms : List ℕ) → eqb n m ≡ b → T (b || one_of n ms) → T (f m && list_all f ms) → (T (one_of n ms) → T (list_all f ms) → T (f n)) → T (f n)
+  at_head true m ms e h t ih = subst (λ (k : ℕ). T (f k)) (sym (eqb→eq n m (subst T (sym e) tt))) (both (f m) (list_all f ms) t).0
+  at_head false m ms e h t ih = ih h (both (f m) (list_all f ms) t).1
 
-  at_one : (ms : List ℕ) → T (one_of n ms) → T (all f ms) → T (f n)
-  unfolding all one_of
+  at_one : (ms : List ℕ) → T (one_of n ms) → T (list_all f ms) → T (f n)
+  unfolding one_of
   at_one [] h t = absurd h
   at_one (m ∷ ms) h t = at_head (eqb n m) m ms refl h t (at_one ms)
 
@@ -54,9 +49,9 @@ module _ (f : ℕ → Bool) (n : ℕ) where
 pub right_rule : (n : ℕ) → T (one_of n orders) → RightRule n
 unfolding tested
 right_rule n known =
-    let t = both (eqb (length (nodes_of n)) n && (all (near_root n) (nodes_of n) && apart (nodes_of n))) _ (at_one tested n orders known all_tested) in
+    let t = both (eqb (length (nodes_of n)) n && (list_all (near_root n) (nodes_of n) && apart (nodes_of n))) _ (at_one tested n orders known all_tested) in
     let z = both (eqb (length (nodes_of n)) n) _ t.0 in
-    let r = both (all (near_root n) (nodes_of n)) _ z.1 in
+    let r = both (list_all (near_root n) (nodes_of n)) _ z.1 in
     let w = both (eqb (length (weights_of n)) n) _ t.1 in
     let e = eqb→eq _ _ z.0 in
     record {

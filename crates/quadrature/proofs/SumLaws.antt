@@ -5,7 +5,7 @@ use lib.Ieee.{to_bits, of_bits, is_nan}
 use Rattle.math.specs.Basic.{zero, max_of, is_finite}
 use Rattle.math.specs.laws.Computes.{exp_computes, ln_computes}
 use Rattle.quadrature.specs.Sums.{log_sum_exp}
-use Rattle.quadrature.proofs.HermiteTheorem.{all}
+use Rattle.std.specs.List.{list_all}
 
 pub negative_infinity : of_bits binary64 0xfff0_0000_0000_0000 ≡ inf true
 unfolding of_bits
@@ -30,6 +30,6 @@ rows =
 unfoldable pub row_right : Row → Bool
 row_right r = eqb (to_bits binary64 (log_sum_exp r.terms)) r.pattern
 
-pub rows_right : T (all row_right rows)
-unfolding exp_computes ln_computes log_sum_exp max_of is_finite is_nan to_bits all row_right
+pub rows_right : T (list_all row_right rows)
+unfolding exp_computes ln_computes log_sum_exp max_of is_finite is_nan to_bits row_right
 rows_right = tt

@@ -1,9 +1,8 @@
--- Past the end 0/0 is the NaN that the definition has there.
-use lib.Ieee.{div, of_bits, nan}
-use Rattle.std.proofs.Common.{sym}
-use lib.ListN.{get_or-eq_default}
+-- Past the end is the library's NaN, which is the definition's.
+use Rattle.std.proofs.Common.{arith}
+use lib.Ieee.{nan}
+use Rattle.math.proofs.Basic.{nan_lem}
 use Rattle.math.proofs.at.Goals as goal
 
 pub returns : goal.returns
-unfolding div of_bits
-returns c = sym (get_or-eq_default c.args.list.now nan c.if-i-list.false)
+returns c = rw (c.unwrap_or.ensures, c.copied.ensures, nan_lem) (c.get.ensures.lookup.4 (omega arith) nan)

@@ -13,7 +13,6 @@ both false b h = absurd (subst T (sym h) tt)
 -- ---- what every element passes, each does
 
 pub every_at : {A : Type 0} (t : A → Bool) (l : List A) (i : ℕ) (d : A) → every t l ≡ true → i < length l → t (slice_index_or l i d) ≡ true
-unfolding every
 every_at t [] i d h p = absurd (not-suc-le-zero p)
 every_at t (x ∷ xs) zero d h p = (both (t x) (every t xs) h).0
 every_at t (x ∷ xs) (suc i) d h p = every_at t xs i d (both (t x) (every t xs) h).1 (le_of_suc-le-suc p)
@@ -22,15 +21,12 @@ every_at t (x ∷ xs) (suc i) d h p = every_at t xs i d (both (t x) (every t xs)
 
 module _ {A : Type 0} (t : A → Bool) (l : List A) (i : ℕ) where
   pub every_stop : (d : A) → i < length l → t (slice_index_or l i d) ≡ false → every t (drop i l) ≡ false
-  unfolding every
   every_stop d p h = rw (drop-cons l i d p, h)
 
   pub every_go : (d : A) → i < length l → t (slice_index_or l i d) ≡ true → every t (drop (i + 1) l) ≡ every t (drop i l)
-  unfolding every
   every_go d p h = rw (add-one i, drop-cons l i d p, h)
 
   pub every_done : length l ≤ i → every t (drop i l) ≡ true
-  unfolding every
   every_done p = rw (drop_of_length-le l p)
 
 -- ---- a test that holds exactly of equal lists of bytes is `same_bytes`

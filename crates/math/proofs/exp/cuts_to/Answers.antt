@@ -4,9 +4,6 @@ use lib.Ieee.{binary64, of_int}
 use Rattle.math.proofs.Cut.{lesser, small_back, more_fits, cut_is}
 use Rattle.math.proofs.exp.cuts_to.Goals as goal
 
-pub overflow_add-n : goal.overflow_add-n
-overflow_add-n c = let n = c.below-n in more_fits n.result _ (small_back n.result n.ensures.0) n.ensures.0
-
 pub returns-then-to_float-v : goal.returns-then-to_float-v
 returns-then-to_float-v c =
     let n = c.below-n in
@@ -17,6 +14,3 @@ returns-then-to_float-v c =
     (c.to_float-then-to_float-v.ensures ∙ ap (λ (z : ℤ). of_int binary64 z) (to_z-of_z (more_fits n.result _ e n.ensures.0) ∙ ap (λ (z : ℤ). z +ℤ pos 1) e))
     c.if-to_float-v.true
     t
-
-pub returns : goal.returns
-returns c = λ t. absurd t
