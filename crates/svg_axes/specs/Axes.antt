@@ -1,5 +1,5 @@
 -- An axis with round steps, and where a value stands in the frame, which is 600 wide from 70 and 400 high from 50.
-use Rattle.std.specs.Prelude.{ℕ, cond, pos, nat_le, Float}
+use Rattle.std.specs.Prelude.{ℕ, cond, pos, ◌==◌, nat_le, int_lt, unsigned_abs, Float, Option, Some, None}
 use Rattle.std.specs.Float.{binary64}
 use Rattle.std.specs.Float.Ieee.{lt, le, neg, of_int}
 use Rattle.math.specs.Basic.{add, sub, mul, div, bits, zero, one, two, abs_of, max_of, is_finite}
@@ -28,33 +28,30 @@ widened_of r =
     let room = max_of (mul (abs_of r.lo) (bits 0x3fb9_9999_9999_999a)) one in
     cond (lt r.lo r.hi) r (record { lo = sub r.lo room; hi = add r.hi room })
 
--- no axis
-abbrev pub no_axis : Axis
-no_axis = record { first = zero; count = 0; step = one; decimals = 0 }
-
 -- whole steps that hold a range whose ends are fewer than 10 ^ 12 steps from 0, so that none is lost in rounding
-unfoldable pub stepped_of : Range → Float → ℕ → Axis
+unfoldable pub stepped_of : Range → Float → ℕ → Option Axis
 stepped_of r step decimals =
     let lo = div r.lo step in
     let hi = div r.hi step in
     let first = floor_of lo in
-    cond (lt (add (abs_of lo) (abs_of hi)) (bits 0x426d_1a94_a200_0000))
-    (record { first = first; count = nearest_whole (sub (neg (floor_of (neg hi))) first); step = step; decimals = decimals })
-    no_axis
+    let count = nearest_whole (sub (neg (floor_of (neg hi))) first) in
+    let axis = cond (count == 0) None (Some (record { first = first; count = count; step = step; decimals = decimals })) in
+    cond (lt (add (abs_of lo) (abs_of hi)) (bits 0x426d_1a94_a200_0000)) axis None
 
 -- the step is m times the power of ten; below 1 it is m divided by it, of at most fifteen decimals
-unfoldable pub with_step : Range → Float → Scaled → Axis
+unfoldable pub with_step : Range → Float → Scaled → Option Axis
 with_step r m s =
-    cond s.small
-    (cond (nat_le s.power 15) (stepped_of r (div m (ten_to s.power)) s.power) no_axis)
-    (stepped_of r (mul m (ten_to s.power)) 0)
+    let n = unsigned_abs s.power in
+    cond (int_lt s.power (pos 0))
+    (cond (nat_le n 15) (stepped_of r (div m (ten_to n)) n) None)
+    (stepped_of r (mul m (ten_to n)) 0)
 
 -- the steps are round and at least a fifth of the range
-unfoldable pub axis_of : Range → Axis
+unfoldable pub axis_of : Range → Option Axis
 axis_of range =
     let r = widened_of range in
     let raw = div (sub r.hi r.lo) (bits 0x4014_0000_0000_0000) in
-    cond (is_finite raw) (with_step r (round_up (in_tens raw).mantissa) (in_tens raw)) no_axis
+    cond (is_finite raw) (with_step r (round_up (in_tens raw).mantissa) (in_tens raw)) None
 
 -- the place nearest to x between two; of a NaN the first
 unfoldable pub clamp_of : Float → Float → Float → Float

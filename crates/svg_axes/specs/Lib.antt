@@ -1,2 +1,4 @@
+pub mod Subject
 pub mod Ranges
 pub mod Axes
+pub mod Frame

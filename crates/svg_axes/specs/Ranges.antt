@@ -1,16 +1,17 @@
 -- What a canister's curve says, and the ranges of what is drawn.
-use Rattle.std.specs.Prelude.{ℕ, true, false, cond, List, [], ◌∷◌, length, pos, slice_index_or, Float}
+use Rattle.std.specs.Prelude.{ℕ, true, false, cond, List, [], ◌∷◌, length, pos, slice_index_or, Float, fold}
 use Rattle.std.specs.Float.{nan, inf, binary64}
 use Rattle.std.specs.Float.Ieee.{of_int}
 use Rattle.math.specs.Basic.{add, sub, mul, div, bits, min_of, max_of, is_finite}
 use Rattle.math.specs.Loops.{iter}
 use Rattle.curves.specs.MeanFn.{eval_with_re_of}
 use Rattle.svg_axes.specs.declared.ranges.Range.{Range}
+use Rattle.svg_axes.specs.Subject.{Shown}
 
 -- the grams of the curve of canister g at a dose: its effect is added to the value at `place`
-unfoldable pub curve_at : ℕ → ℕ → List Float → List Float → ℕ → Float → Float
-curve_at code place values b g dose =
-    (eval_with_re_of code (slice_index_or values 0 nan ∷ slice_index_or values 1 nan ∷ slice_index_or values 2 nan ∷ slice_index_or values 3 nan ∷ []) (place ∷ []) (slice_index_or b g nan ∷ []) dose).mu
+unfoldable pub curve_at : Shown → ℕ → Float → Float
+curve_at s g dose =
+    (eval_with_re_of s.code (slice_index_or s.values 0 nan ∷ slice_index_or s.values 1 nan ∷ slice_index_or s.values 2 nan ∷ slice_index_or s.values 3 nan ∷ []) (s.place ∷ []) (slice_index_or s.effects g nan ∷ []) dose).mu
 
 -- the range of no number
 abbrev pub no_range : Range
@@ -21,15 +22,15 @@ unfoldable pub wider_by : Range → Float → Range
 wider_by r v = cond (is_finite v) (record { lo = min_of v r.lo; hi = max_of v r.hi }) r
 
 unfoldable pub list_range : List Float → Range
-list_range l = iter (λ i r. wider_by r (slice_index_or l i nan)) (length l) no_range
+list_range l = fold wider_by no_range l
 
 -- the j-th of the 61 doses, 0 to 60, at which a curve is drawn
 unfoldable pub sample_of : Range → ℕ → Float
 sample_of r j = min_of (add r.lo (mul (div (of_int binary64 (pos j)) (bits 0x404e_0000_0000_0000)) (sub r.hi r.lo))) r.hi
 
 -- a range with a curve's grams at those doses, and with every canister's
-unfoldable pub with_curve : ℕ → ℕ → List Float → List Float → Range → ℕ → Range → Range
-with_curve code place values b doses g grams = iter (λ j r. wider_by r (curve_at code place values b g (sample_of doses j))) 61 grams
+unfoldable pub with_curve : Shown → Range → ℕ → Range → Range
+with_curve s doses g grams = iter (λ j r. wider_by r (curve_at s g (sample_of doses j))) 61 grams
 
-unfoldable pub with_curves : ℕ → ℕ → List Float → List Float → Range → Range → Range
-with_curves code place values b doses grams = iter (with_curve code place values b doses) (length b) grams
+unfoldable pub with_curves : Shown → Range → Range → Range
+with_curves s doses grams = iter (with_curve s doses) (length s.effects) grams

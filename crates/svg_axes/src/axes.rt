@@ -1,12 +1,12 @@
 // An axis with round steps, and where a value stands in the frame.
 ghost use Rattle.std.specs.Prelude.{◌≡◌};
-ghost use Rattle.svg_axes.specs.Axes.{ten_to, round_up, floor_of, widened_of, no_axis, stepped_of, with_step, axis_of, clamp_of, along_of, x_pixel, y_pixel};
+ghost use Rattle.svg_axes.specs.Axes.{ten_to, round_up, floor_of, widened_of, stepped_of, with_step, axis_of, clamp_of, along_of, x_pixel, y_pixel};
 
 use crate::ranges::Range;
 use math::words::{to_float, to_int};
 use text_floats::{Scaled, in_tens, nearest};
 
-// From first * step to (first + count) * step, labelled with so many decimals; count 0 where there is no such axis.
+// From first * step to (first + count) * step, labelled with so many decimals.
 #[derive(Clone, Copy)]
 pub struct Axis {
     pub first: f64,
@@ -15,44 +15,36 @@ pub struct Axis {
     pub decimals: u64,
 }
 
-fn none() -> Axis
-    ensures { result ≡ no_axis }
-{
-    Axis {
-        first: 0.0,
-        count: 0,
-        step: 1.0,
-        decimals: 0,
-    }
-}
-
 // 10^n, infinite where that is too large.
+#[tactic(auto, using(math::specs::laws::Loops::iter_zero, math::specs::laws::Loops::iter_next), unfolding(crate::specs::Axes::ten_to))]
 fn ten_to(n: u64) -> f64
     ensures { result ≡ ten_to n }
 {
     let mut x = 1.0;
-    let mut i = 0u64;
-    while i < n {
-        x = x * 10.0;
-        i += 1;
+    for _i in 0..n {
+        x *= 10.0;
     }
     x
 }
 
 // 1, 2, 5 or 10, the first that is not below m.
+#[tactic(auto, unfolding(crate::specs::Axes::round_up))]
 fn round_up(m: f64) -> f64
     ensures { result ≡ round_up m }
 {
     if m <= 1.0 {
-        return 1.0;
+        1.0
+    } else if m <= 2.0 {
+        2.0
+    } else if m <= 5.0 {
+        5.0
+    } else {
+        10.0
     }
-    if m <= 2.0 {
-        return 2.0;
-    }
-    if m <= 5.0 { 5.0 } else { 10.0 }
 }
 
 // The largest whole number that is not above x, of a size below 2^53.
+#[tactic(auto, unfolding(crate::specs::Axes::floor_of))]
 fn floor(x: f64) -> f64
     ensures { result ≡ floor_of x }
 {
@@ -61,7 +53,8 @@ fn floor(x: f64) -> f64
 }
 
 // Whole steps that hold the range, where a step is not lost in rounding.
-fn stepped(r: Range, step: f64, decimals: u64) -> Axis
+#[tactic(auto, unfolding(crate::specs::Axes::stepped_of))]
+fn stepped(r: Range, step: f64, decimals: u64) -> Option<Axis>
     ensures { result ≡ stepped_of r step decimals }
 {
     let lo = r.lo / step;
@@ -69,31 +62,35 @@ fn stepped(r: Range, step: f64, decimals: u64) -> Axis
     if math::abs(lo) + math::abs(hi) < 1e12 {
         let first = floor(lo);
         let count = nearest(-floor(-hi) - first);
-        return Axis {
-            first: first,
-            count: count,
-            step: step,
-            decimals: decimals,
-        };
+        if count > 0 {
+            return Some(Axis {
+                first,
+                count,
+                step,
+                decimals,
+            });
+        }
     }
-    none()
+    None
 }
 
-// The step is m, which is 1, 2, 5 or 10, times the power of ten, or divided by it.
-fn with_step(r: Range, m: f64, s: Scaled) -> Axis
+// The step is m, which is 1, 2, 5 or 10, times the power of ten.
+#[tactic(auto, unfolding(crate::specs::Axes::with_step))]
+fn with_step(r: Range, m: f64, s: Scaled) -> Option<Axis>
     ensures { result ≡ with_step r m s }
 {
-    let n = s.power;
-    if s.small {
-        if n <= 15 {
-            return stepped(r, m / ten_to(n), n);
-        }
-        return none();
+    let n = s.power.unsigned_abs();
+    if s.power >= 0 {
+        stepped(r, m * ten_to(n), 0)
+    } else if n <= 15 {
+        stepped(r, m / ten_to(n), n)
+    } else {
+        None
     }
-    stepped(r, m * ten_to(n), 0)
 }
 
 // A range of one point gets some room.
+#[tactic(auto, unfolding(crate::specs::Axes::widened_of))]
 fn widened(r: Range) -> Range
     ensures { result ≡ widened_of r }
 {
@@ -107,44 +104,50 @@ fn widened(r: Range) -> Range
     }
 }
 
-pub fn axis_of(range: Range) -> Axis
+#[tactic(auto, unfolding(crate::specs::Axes::axis_of))]
+pub fn axis_of(range: Range) -> Option<Axis>
     ensures { result ≡ axis_of range }
 {
     let r = widened(range);
     let raw = (r.hi - r.lo) / 5.0;
     if math::is_finite(raw) {
         let s = in_tens(raw);
-        return with_step(r, round_up(s.mantissa), s);
+        with_step(r, round_up(s.mantissa), s)
+    } else {
+        None
     }
-    none()
 }
 
-// The place nearest to x between from and to; a NaN is at from.
+// The place nearest to x between from and to; unlike the `clamp` of `f64`, a NaN is at from.
+#[tactic(auto, unfolding(crate::specs::Axes::clamp_of))]
 fn clamp(x: f64, from: f64, to: f64) -> f64
     ensures { result ≡ clamp_of x from to }
 {
     if to < x {
-        return to;
+        to
+    } else if from < x {
+        x
+    } else {
+        from
     }
-    if from < x {
-        return x;
-    }
-    from
 }
 
 // From 0 at the axis's first tick to 1 at its last.
+#[tactic(auto, unfolding(crate::specs::Axes::along_of))]
 fn along(a: Axis, x: f64) -> f64
     ensures { result ≡ along_of a x }
 {
     (x / a.step - a.first) / std::num::nearest_u64_to_f64(a.count)
 }
 
+#[tactic(auto, unfolding(crate::specs::Axes::x_pixel))]
 pub fn x_pixel(a: Axis, x: f64) -> f64
     ensures { result ≡ x_pixel a x }
 {
     clamp(70.0 + along(a, x) * 600.0, 70.0, 670.0)
 }
 
+#[tactic(auto, unfolding(crate::specs::Axes::y_pixel))]
 pub fn y_pixel(a: Axis, x: f64) -> f64
     ensures { result ≡ y_pixel a x }
 {

@@ -2,25 +2,30 @@
 #![tactic(auto)]
 
 pub mod axes;
+pub mod frame;
 pub mod ranges;
+pub mod subject;
 
 ghost use Rattle.std.specs.Prelude.{◌≡◌};
+ghost use Rattle.svg_axes.specs.Subject.{shown};
 ghost use Rattle.svg_axes.specs.Ranges.{curve_at};
 
-use curves::mean_fn::eval_mean_with_re;
+use crate::subject::Subject;
 
 // What the curve of canister g says at a dose.
-pub fn curve_at(code: u64, place: usize, values: &[f64], b: &[f64], g: usize, dose: f64) -> f64
-    ensures { result ≡ curve_at code place values.now b.now g dose }
+#[tactic(auto, unfolding(crate::specs::Ranges::curve_at))]
+pub fn curve_at(s: &Subject<'_>, g: usize, dose: f64) -> f64
+    ensures { result ≡ curve_at (shown s.now) g dose }
 {
     let params = [
-        math::at(values, 0),
-        math::at(values, 1),
-        math::at(values, 2),
-        math::at(values, 3),
+        math::at(s.values, 0),
+        math::at(s.values, 1),
+        math::at(s.values, 2),
+        math::at(s.values, 3),
     ];
-    let indices = [place];
-    let offsets = [math::at(b, g)];
-    let m = eval_mean_with_re(code, dose, params, &indices, &offsets);
-    m.mu
+    let offsets = [math::at(s.effects, g)];
+    let mean = s
+        .curve
+        .eval_mean_with_re(dose, params, &[s.place], &offsets);
+    mean.mu
 }

@@ -1,8 +1,10 @@
 // The range of what is drawn.
 ghost use Rattle.std.specs.Prelude.{◌≡◌};
-ghost use Rattle.svg_axes.specs.Ranges.{wider_by, list_range, sample_of, with_curve, with_curves};
+ghost use Rattle.svg_axes.specs.Subject.{shown};
+ghost use Rattle.svg_axes.specs.Ranges.{no_range, wider_by, list_range, sample_of, with_curve, with_curves};
 
 use crate::curve_at;
+use crate::subject::Subject;
 
 #[derive(Clone, Copy)]
 pub struct Range {
@@ -11,32 +13,39 @@ pub struct Range {
 }
 
 // A range with one number more; one that is not finite is left out.
+#[tactic(auto, unfolding(crate::specs::Ranges::wider_by))]
 fn with(r: Range, v: f64) -> Range
     ensures { result ≡ wider_by r v }
 {
     if math::is_finite(v) {
-        return Range {
+        Range {
             lo: math::min(v, r.lo),
             hi: math::max(v, r.hi),
-        };
+        }
+    } else {
+        r
     }
-    r
 }
 
+// The range of no number.
+fn no_range() -> Range
+    ensures { result ≡ no_range }
+{
+    Range {
+        lo: f64::INFINITY,
+        hi: f64::NEG_INFINITY,
+    }
+}
+
+#[tactic(auto, unfolding(crate::specs::Ranges::list_range))]
 pub fn list_range(list: &[f64]) -> Range
     ensures { result ≡ list_range list.now }
 {
-    let big = math::infinity();
-    let mut r = Range { lo: big, hi: -big };
-    let mut i = 0usize;
-    while i < list.len() {
-        r = with(r, list[i]);
-        i += 1;
-    }
-    r
+    list.iter().fold(no_range(), |r, v| with(r, *v))
 }
 
 // A curve is drawn at 61 doses, the j-th of 0 to 60.
+#[tactic(auto, unfolding(crate::specs::Ranges::sample_of))]
 pub fn sample(r: Range, j: u64) -> f64
     ensures { result ≡ sample_of r j }
 {
@@ -44,42 +53,25 @@ pub fn sample(r: Range, j: u64) -> f64
     math::min(r.lo + t * (r.hi - r.lo), r.hi)
 }
 
-fn one_curve(
-    grams: Range,
-    code: u64,
-    place: usize,
-    values: &[f64],
-    b: &[f64],
-    g: usize,
-    doses: Range,
-) -> Range
-    ensures { result ≡ with_curve code place values.now b.now doses g grams }
+#[tactic(auto, using(math::specs::laws::Loops::iter_zero, math::specs::laws::Loops::iter_next), unfolding(crate::specs::Ranges::with_curve))]
+fn one_curve(grams: Range, s: &Subject<'_>, g: usize, doses: Range) -> Range
+    ensures { result ≡ with_curve (shown s.now) doses g grams }
 {
     let mut r = grams;
-    let mut j = 0u64;
-    while j < 61 {
-        r = with(r, curve_at(code, place, values, b, g, sample(doses, j)));
-        j += 1;
+    for j in 0..61 {
+        r = with(r, curve_at(s, g, sample(doses, j)));
     }
     r
 }
 
 // The range of the grams and of every canister's curve.
-pub fn all_curves(
-    grams: Range,
-    code: u64,
-    place: usize,
-    values: &[f64],
-    b: &[f64],
-    doses: Range,
-) -> Range
-    ensures { result ≡ with_curves code place values.now b.now doses grams }
+#[tactic(auto, using(math::specs::laws::Loops::iter_zero, math::specs::laws::Loops::iter_next), unfolding(crate::specs::Ranges::with_curves))]
+pub fn all_curves(grams: Range, s: &Subject<'_>, doses: Range) -> Range
+    ensures { result ≡ with_curves (shown s.now) doses grams }
 {
     let mut r = grams;
-    let mut g = 0usize;
-    while g < b.len() {
-        r = one_curve(r, code, place, values, b, g, doses);
-        g += 1;
+    for g in 0..s.effects.len() {
+        r = one_curve(r, s, g, doses);
     }
     r
 }

@@ -1,66 +1,31 @@
 // Text inside an XML element.
-ghost use Rattle.std.specs.Prelude.{min, ◌≡◌};
+ghost use Rattle.std.specs.Prelude.{◌≡◌};
+ghost use Rattle.std.specs.List.{flat_map};
 ghost use Rattle.text_buffer.specs.Text.{wrote};
-ghost use Rattle.svg_marks.specs.Escape.{word_for, escaped_byte, escaped_text};
+ghost use Rattle.svg_marks.specs.Escape.{escaped_byte};
 
-use text_buffer::{Place, put};
-use text_lines::words::word;
+use text_buffer::Text;
 
-// The number of the word that stands for a byte; 5 where it stands for itself.
-fn word_for(b: u8) -> u64
-    ensures { result ≡ word_for b }
+// The four characters that XML keeps for itself by their names, `?` for what ASCII does not print.
+#[tactic(auto, unfolding(crate::specs::Escape::escaped_byte))]
+fn byte(out: &mut Text<'_>, b: u8)
+    ensures { out.new ≡ wrote out.old (escaped_byte b) }
 {
-    if b == 38 {
-        return 0;
+    match b {
+        b'&' => out.put(b"&amp;"),
+        b'<' => out.put(b"&lt;"),
+        b'>' => out.put(b"&gt;"),
+        b'"' => out.put(b"&quot;"),
+        b' '..=b'~' => out.byte(b),
+        _ => out.byte(b'?'),
     }
-    if b == 60 {
-        return 1;
-    }
-    if b == 62 {
-        return 2;
-    }
-    if b == 34 {
-        return 3;
-    }
-    if b < 32 {
-        return 4;
-    }
-    if b > 126 {
-        return 4;
-    }
-    5
 }
 
-fn byte(out: &mut [u8], p: Place, b: u8) -> Place
-    ensures { (out.new, result) ≡ wrote out.old p (escaped_byte b) }
+#[tactic(auto, using(text_buffer::specs::laws::Text::wrote_none, crate::proofs::Laws::of_next))]
+pub fn escaped(out: &mut Text<'_>, text: &[u8])
+    ensures { out.new ≡ wrote out.old (flat_map escaped_byte text.now) }
 {
-    let k = word_for(b);
-    if k < 5 {
-        return word(out, p, b"&amp;\n&lt;\n&gt;\n&quot;\n?\n", k);
+    for &b in text {
+        byte(out, b);
     }
-    let one = [b];
-    put(out, p, &one)
-}
-
-fn lesser(a: usize, b: usize) -> usize
-    ensures { result ≡ min a b }
-{
-    if a < b {
-        return a;
-    }
-    b
-}
-
-// A part of a text, by where it begins and ends.
-pub fn escaped(out: &mut [u8], p: Place, text: &[u8], from: usize, to: usize) -> Place
-    ensures { (out.new, result) ≡ wrote out.old p (escaped_text text.now from to) }
-{
-    let mut p = p;
-    let mut i = from;
-    let end = lesser(to, text.len());
-    while i < end {
-        p = byte(out, p, text[i]);
-        i += 1;
-    }
-    p
 }

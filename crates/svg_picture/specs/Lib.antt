@@ -1,2 +1,2 @@
-pub mod Frame
+pub mod Framing
 pub mod Picture

@@ -1,136 +1,58 @@
 // A picture of the readings with each canister's fitted curve, as SVG: 960 by 510, the frame from 70 to 670 and from 50 to 450.
 #![tactic(auto)]
 
-pub mod frame;
+pub mod framing;
 
 ghost use Rattle.std.specs.Prelude.{◌≡◌, length};
-ghost use Rattle.text_buffer.specs.Text.{start, wrote};
+ghost use Rattle.text_buffer.specs.Text.{wrote};
 ghost use Rattle.svg_marks.specs.Escape.{each};
+ghost use Rattle.svg_axes.specs.Subject.{shown};
 ghost use Rattle.svg_picture.specs.Picture.{canister_text, drawn_text, picture_text};
 
-use svg_axes::axes::{Axis, axis_of};
-use svg_axes::ranges::{Range, all_curves, list_range};
+use crate::framing::framing;
+use svg_axes::frame::{Frame, frame_of};
+use svg_axes::subject::Subject;
 use svg_series::legend::legend;
 use svg_series::series::{curve, readings};
-use text_buffer::{Place, put};
+use text_buffer::Text;
 
 // Canister g: its curve, its readings and its row of the legend.
-fn canister(
-    out: &mut [u8],
-    p: Place,
-    code: u64,
-    place: usize,
-    text: &[u8],
-    doses: &[f64],
-    grams: &[f64],
-    group: &[usize],
-    names: &[u64],
-    values: &[f64],
-    b: &[f64],
-    g: usize,
-    r: Range,
-    h: Axis,
-    v: Axis,
-) -> Place
-    ensures { (out.new, result) ≡ wrote out.old p
-        (canister_text code place text.now doses.now grams.now group.now names.now values.now b.now r h v g) }
+#[tactic(auto, using(text_buffer::specs::laws::Text::writing), unfolding(crate::specs::Picture::canister_text))]
+fn canister(out: &mut Text<'_>, s: &Subject<'_>, f: &Frame, g: usize)
+    ensures { out.new ≡ wrote out.old (canister_text (shown s.now) f.now g) }
 {
-    let p = curve(out, p, code, place, values, b, g, r, h, v);
-    let p = readings(out, p, doses, grams, group, g, h, v);
-    legend(out, p, text, names, g)
+    curve(out, s, f, g);
+    readings(out, s, f, g);
+    legend(out, s, g);
 }
 
-fn canisters(
-    out: &mut [u8],
-    p: Place,
-    code: u64,
-    place: usize,
-    text: &[u8],
-    doses: &[f64],
-    grams: &[f64],
-    group: &[usize],
-    names: &[u64],
-    values: &[f64],
-    b: &[f64],
-    r: Range,
-    h: Axis,
-    v: Axis,
-) -> Place
-    ensures { (out.new, result) ≡ wrote out.old p
-        (each (canister_text code place text.now doses.now grams.now group.now names.now values.now b.now r h v) (length b.now)) }
+#[tactic(auto, using(svg_marks::proofs::Laws::running))]
+fn canisters(out: &mut Text<'_>, s: &Subject<'_>, f: &Frame)
+    ensures { out.new ≡ wrote out.old (each (canister_text (shown s.now) f.now) (length s.now.effects.now)) }
 {
-    let mut p = p;
-    let mut g = 0usize;
-    while g < b.len() {
-        let now = g;
-        g += 1;
-        p = canister(
-            out, p, code, place, text, doses, grams, group, names, values, b, now, r, h, v,
-        );
+    for g in 0..s.effects.len() {
+        canister(out, s, f, g);
     }
-    p
 }
 
-fn drawn(
-    out: &mut [u8],
-    code: u64,
-    place: usize,
-    text: &[u8],
-    doses: &[f64],
-    grams: &[f64],
-    group: &[usize],
-    names: &[u64],
-    values: &[f64],
-    b: &[f64],
-    example: bool,
-    warning: u64,
-    r: Range,
-    h: Axis,
-    v: Axis,
-) -> Place
-    ensures { (out.new, result) ≡ wrote out.old start
-        (drawn_text code place text.now doses.now grams.now group.now names.now values.now b.now example warning r h v) }
+fn drawn(out: &mut Text<'_>, s: &Subject<'_>, f: &Frame, example: bool, said: &[u8])
+    ensures { out.new ≡ wrote out.old (drawn_text (shown s.now) f.now example said.now) }
 {
-    let p = put(
-        out,
-        text_buffer::begin(),
+    out.put(
         b"<svg xmlns=\"http://www.w3.org/2000/svg\" width=\"960\" height=\"510\" viewBox=\"0 0 960 510\"\n font-family=\"Helvetica, Arial, sans-serif\" font-size=\"12\" fill=\"#222222\">\n<rect width=\"960\" height=\"510\" fill=\"white\"/>\n",
     );
-    let p = frame::frame(out, p, code, warning, h, v, example);
-    let p = canisters(
-        out, p, code, place, text, doses, grams, group, names, values, b, r, h, v,
-    );
-    put(out, p, b"</svg>\n")
+    framing(out, s.curve, f, example, said);
+    canisters(out, s, f);
+    out.put(b"</svg>\n");
 }
 
-// The whole picture; nothing is written where the readings span no range that can be drawn.
-pub fn draw(
-    out: &mut [u8],
-    code: u64,
-    place: usize,
-    text: &[u8],
-    doses: &[f64],
-    grams: &[f64],
-    group: &[usize],
-    names: &[u64],
-    values: &[f64],
-    b: &[f64],
-    example: bool,
-    warning: u64,
-) -> Place
-    ensures { (out.new, result) ≡ wrote out.old start
-        (picture_text code place text.now doses.now grams.now group.now names.now values.now b.now example warning) }
+// The whole picture, with what its title says after the curve's name; nothing is written where the readings span no range
+// that can be drawn.
+#[tactic(auto, using(text_buffer::specs::laws::Text::writing), unfolding(crate::specs::Picture::picture_text))]
+pub fn draw(out: &mut Text<'_>, s: &Subject<'_>, example: bool, said: &[u8])
+    ensures { out.new ≡ wrote out.old (picture_text (shown s.now) example said.now) }
 {
-    let r = list_range(doses);
-    let h = axis_of(r);
-    let v = axis_of(all_curves(list_range(grams), code, place, values, b, r));
-    if h.count == 0 {
-        return text_buffer::begin();
+    if let Some(f) = frame_of(s) {
+        drawn(out, s, &f, example, said);
     }
-    if v.count == 0 {
-        return text_buffer::begin();
-    }
-    drawn(
-        out, code, place, text, doses, grams, group, names, values, b, example, warning, r, h, v,
-    )
 }

@@ -4,7 +4,7 @@ use Rattle.std.proofs.Common.{◌-◌, arith, append-nil, append_assoc, length-a
 use Rattle.std.proofs.Math.Seq.{take-nil, take-append-add}
 use Rattle.std.proofs.lemmas.List.{take-append-le}
 use Rattle.std.proofs.lemmas.Grind.{common_steps}
-use Rattle.text_buffer.specs.Text.{Written, empty, wrote}
+use Rattle.text_buffer.specs.Text.{Written, empty, wrote, joined}
 
 -- a quoted text is the list that a literal of the code is
 literal : codes "a\n" ≡ 97 ∷ 10 ∷ []
@@ -25,8 +25,17 @@ pub wrote_then : (w : Written) (t u : List ℕ) → wrote w (t ++ u) ≡ wrote (
 unfolding wrote
 wrote_then w t u = grind (arith, common_steps, take_past, take-append-le {A = ℕ}, length-append {A = ℕ}, length-drop {A = ℕ}, append_assoc {A = ℕ}, append-nil {A = ℕ})
 
+-- texts, one by one
+pub joined_none : (w : Written) → wrote w (joined []) ≡ w
+unfolding joined
+joined_none w = wrote_none w
+
+pub joined_then : (w : Written) (t : List ℕ) (ts : List (List ℕ)) → wrote w (joined (t ∷ ts)) ≡ wrote (wrote w t) (joined ts)
+unfolding joined
+joined_then w t ts = wrote_then w t (joined ts)
+
 -- what a function that writes one text after another needs
-pub ruleset writing = (wrote_none, wrote_then)
+pub ruleset writing = (wrote_none, wrote_then, joined_none, joined_then)
 
 -- a full text stays as it is, whatever is written
 pub full_stays : (w : Written) (t : List ℕ) → w.full ≡ true → wrote w t ≡ w

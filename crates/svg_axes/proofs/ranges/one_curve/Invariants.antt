@@ -1,10 +1,8 @@
-use Rattle.std.proofs.Common.{◌≡◌, ◌-◌, ◌≤◌}
+use Rattle.std.proofs.Common.{◌≡◌}
 use Rattle.math.specs.Loops.{iter}
+use Rattle.svg_axes.specs.Subject.{shown}
 use Rattle.svg_axes.specs.Ranges.{wider_by, curve_at, sample_of}
 use Rattle.svg_axes.proofs.ranges.one_curve.Given as goal
 
 abbrev pub invariant-loop-j : goal.invariant-loop-j
-invariant-loop-j l = (l.j ≤ 61) × (l.r ≡ iter (λ k q. wider_by q (curve_at l.code l.place l.values l.b l.g (sample_of l.doses k))) l.j l.initial.r)
-
-abbrev pub decreases-loop-j : goal.decreases-loop-j
-decreases-loop-j l = 61 - l.j
+invariant-loop-j l = l.r ≡ iter (λ k q. wider_by q (curve_at (shown l.s) l.g (sample_of l.doses k))) l.j l.initial.r

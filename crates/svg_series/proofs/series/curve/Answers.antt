@@ -1,8 +1,8 @@
--- What opens the line, its colour, what opens its points and the points are one text.
+-- The texts of the definition, one by one.
+use Rattle.text_buffer.specs.laws.Text.{joined_none, joined_then}
 use Rattle.svg_series.specs.Canister.{curve_text}
-use Rattle.svg_marks.proofs.Laws.{then}
 use Rattle.svg_series.proofs.series.curve.Goals as goal
 
 pub returns : goal.returns
 unfolding curve_text
-returns c = then _ _ _ _ _ _ _ _ c.put-p.ensures (then _ _ _ _ _ _ _ _ c.colour-p.ensures (then _ _ _ _ _ _ _ _ c.put-p-2.ensures c.vertices.ensures))
+returns c = simp (joined_then, joined_none) (cc)

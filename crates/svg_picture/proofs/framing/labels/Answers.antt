@@ -1,0 +1,8 @@
+-- The texts of the definition, one by one.
+use Rattle.text_buffer.specs.laws.Text.{joined_none, joined_then}
+use Rattle.svg_picture.specs.Framing.{labels_text}
+use Rattle.svg_picture.proofs.framing.labels.Goals as goal
+
+pub returns : goal.returns
+unfolding labels_text
+returns c = simp (joined_then, joined_none) (cc)
