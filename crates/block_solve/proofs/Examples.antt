@@ -1,9 +1,6 @@
 -- Whole directions, computed, and held to those of a model in another language that follows block_solve.rs. Assumes nothing.
-use mathlib.Core.Path.{◌≡◌, refl}
-use mathlib.Core.List.{List, [], ◌∷◌, map}
-use mathlib.Core.Option.{Option, none, some}
+use Rattle.std.proofs.Common.{◌≡◌, refl, ℕ, List, [], ◌∷◌, map, Option, Some, None}
 use lib.Ieee.{Float, binary64, to_bits}
-use Prim.Native.Nat.{ℕ}
 use Rattle.math.specs.Basic.{bits, zero, half, one, two}
 use Rattle.block_solve.specs.declared.normal.BlockNormal.{BlockNormal}
 use Rattle.block_solve.specs.Normal.{empty_of, accumulate_of, prior_of}
@@ -11,8 +8,8 @@ use Rattle.block_solve.specs.Direction.{direction_of}
 use Rattle.block_solve.specs.laws.Computes.{direction_computes}
 
 abbrev shown : Option (List Float) → List ℕ
-shown none = []
-shown (some l) = map (to_bits binary64) l
+shown None = []
+shown (Some l) = map (to_bits binary64) l
 
 abbrev three : Float
 three = bits 0x4008_0000_0000_0000

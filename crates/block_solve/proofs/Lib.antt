@@ -1,3 +1,3 @@
-pub mod Laws
+pub mod Blocks
 pub mod Sound
 pub mod Examples

@@ -5,41 +5,45 @@ use Rattle.math.specs.Basic.{mul}
 use Rattle.math.specs.Loops.{iter}
 use Rattle.block_solve.specs.Normal.{bump}
 
-abbrev pub fixed_in : List Float → ℕ → ℕ → List Float → List Float
-fixed_in f i j l = bump l (i * 4 + j) (mul (get_or f i nan) (get_or f j nan))
+-- the products of p numbers f by k numbers r, a row for each of f; row i begins at the place at i
+module _ (at : ℕ → ℕ) (f : List Float) (k : ℕ) (r : List Float) where
+  abbrev pub product_in : ℕ → ℕ → List Float → List Float
+  product_in i j l = bump l (at i + j) (mul (get_or f i nan) (get_or r j nan))
 
-abbrev pub fixed_line : ℕ → List Float → ℕ → List Float → List Float
-fixed_line p f i l = iter (fixed_in f i) p l
+  abbrev pub product_row : ℕ → List Float → List Float
+  product_row i l = iter (product_in i) k l
 
-unfoldable pub fixed_of : ℕ → List Float → List Float → List Float
-fixed_of p f l = iter (fixed_line p f) p l
+unfoldable pub products_of : (ℕ → ℕ) → ℕ → List Float → ℕ → List Float → List Float → List Float
+products_of at p f k r l = iter (product_row at f k r) p l
 
-abbrev pub cross_in : ℕ → List Float → List Float → ℕ → ℕ → List Float → List Float
-cross_in g f r i j l = bump l (g * 8 + i * 2 + j) (mul (get_or f i nan) (get_or r j nan))
+-- the multiples of p numbers f by y; the i-th is added at the place at i
+abbrev pub multiple_in : (ℕ → ℕ) → List Float → Float → ℕ → List Float → List Float
+multiple_in at f y i l = bump l (at i) (mul (get_or f i nan) y)
 
-abbrev pub cross_line : ℕ → List Float → ℕ → List Float → ℕ → List Float → List Float
-cross_line g f k r i l = iter (cross_in g f r i) k l
+unfoldable pub multiples_of : (ℕ → ℕ) → ℕ → List Float → Float → List Float → List Float
+multiples_of at p f y l = iter (multiple_in at f y) p l
 
-unfoldable pub cross_of : ℕ → ℕ → List Float → ℕ → List Float → List Float → List Float
-cross_of g p f k r l = iter (cross_line g f k r) p l
+-- the places: four to a row of the fixed block, and of a group eight in the cross block, four in its own, two at the right
+abbrev pub fixed_row_at : ℕ → ℕ
+fixed_row_at i = i * 4
 
-abbrev pub random_in : ℕ → List Float → ℕ → ℕ → List Float → List Float
-random_in g r i j l = bump l (g * 4 + i * 2 + j) (mul (get_or r i nan) (get_or r j nan))
+abbrev pub cross_row_at : ℕ → ℕ → ℕ
+cross_row_at g i = g * 8 + i * 2
 
-abbrev pub random_line : ℕ → ℕ → List Float → ℕ → List Float → List Float
-random_line g k r i l = iter (random_in g r i) k l
+abbrev pub random_row_at : ℕ → ℕ → ℕ
+random_row_at g i = g * 4 + i * 2
 
-unfoldable pub random_of : ℕ → ℕ → List Float → List Float → List Float
-random_of g k r l = iter (random_line g k r) k l
+abbrev pub fixed_of : ℕ → List Float → List Float → List Float
+fixed_of p f l = products_of fixed_row_at p f p f l
 
-abbrev pub fixed_rhs_in : List Float → Float → ℕ → List Float → List Float
-fixed_rhs_in f y i l = bump l i (mul (get_or f i nan) y)
+abbrev pub cross_of : ℕ → ℕ → List Float → ℕ → List Float → List Float → List Float
+cross_of g p f k r l = products_of (cross_row_at g) p f k r l
 
-unfoldable pub fixed_rhs_of : ℕ → List Float → Float → List Float → List Float
-fixed_rhs_of p f y l = iter (fixed_rhs_in f y) p l
+abbrev pub random_of : ℕ → ℕ → List Float → List Float → List Float
+random_of g k r l = products_of (random_row_at g) k r k r l
 
-abbrev pub random_rhs_in : ℕ → List Float → Float → ℕ → List Float → List Float
-random_rhs_in g r y i l = bump l (g * 2 + i) (mul (get_or r i nan) y)
+abbrev pub fixed_rhs_of : ℕ → List Float → Float → List Float → List Float
+fixed_rhs_of p f y l = multiples_of (λ i. i) p f y l
 
-unfoldable pub random_rhs_of : ℕ → ℕ → List Float → Float → List Float → List Float
-random_rhs_of g k r y l = iter (random_rhs_in g r y) k l
+abbrev pub random_rhs_of : ℕ → ℕ → List Float → Float → List Float → List Float
+random_rhs_of g k r y l = multiples_of (λ i. g * 2 + i) k r y l

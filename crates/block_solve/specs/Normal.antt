@@ -17,24 +17,19 @@ abbrev pub bump : List Float → ℕ → Float → List Float
 bump l at x = set l at (add (get_or l at nan) x)
 
 abbrev pub in_fixed : BlockNormal → ℕ → Float → BlockNormal
-in_fixed n at x =
-    record { fixed = bump n.fixed at x; cross = n.cross; random = n.random; fixed_rhs = n.fixed_rhs; random_rhs = n.random_rhs }
+in_fixed n at x = record n { fixed = bump n.fixed at x }
 
 abbrev pub in_cross : BlockNormal → ℕ → Float → BlockNormal
-in_cross n at x =
-    record { fixed = n.fixed; cross = bump n.cross at x; random = n.random; fixed_rhs = n.fixed_rhs; random_rhs = n.random_rhs }
+in_cross n at x = record n { cross = bump n.cross at x }
 
 abbrev pub in_random : BlockNormal → ℕ → Float → BlockNormal
-in_random n at x =
-    record { fixed = n.fixed; cross = n.cross; random = bump n.random at x; fixed_rhs = n.fixed_rhs; random_rhs = n.random_rhs }
+in_random n at x = record n { random = bump n.random at x }
 
 abbrev pub in_fixed_rhs : BlockNormal → ℕ → Float → BlockNormal
-in_fixed_rhs n at x =
-    record { fixed = n.fixed; cross = n.cross; random = n.random; fixed_rhs = bump n.fixed_rhs at x; random_rhs = n.random_rhs }
+in_fixed_rhs n at x = record n { fixed_rhs = bump n.fixed_rhs at x }
 
 abbrev pub in_random_rhs : BlockNormal → ℕ → Float → BlockNormal
-in_random_rhs n at x =
-    record { fixed = n.fixed; cross = n.cross; random = n.random; fixed_rhs = n.fixed_rhs; random_rhs = bump n.random_rhs at x }
+in_random_rhs n at x = record n { random_rhs = bump n.random_rhs at x }
 
 -- `accumulate`: what a reading of group g adds, with the gradients f by the p curve values, r by the k effects, and the residual y
 module _ (g : ℕ) (p : ℕ) (f : List Float) (k : ℕ) (r : List Float) (y : Float) where
@@ -68,23 +63,30 @@ unfoldable pub times_of : List (List Float) → ℕ → List Float → Float
 times_of m i b = iter (times_at m i b) (length b) zero
 
 abbrev pub less_random_rhs : BlockNormal → ℕ → Float → BlockNormal
-less_random_rhs n at x =
-    record { fixed = n.fixed; cross = n.cross; random = n.random; fixed_rhs = n.fixed_rhs; random_rhs = set n.random_rhs at (sub (get_or n.random_rhs at nan) x) }
+less_random_rhs n at x = record n { random_rhs = set n.random_rhs at (sub (get_or n.random_rhs at nan) x) }
 
--- `add_prior`: each group's block gets the inverse m, and its right-hand side loses the inverse times its effects
-module _ (k : ℕ) (m : List (List Float)) (b : List Float) where
-  abbrev pub prior_at : ℕ → ℕ → ℕ → BlockNormal → BlockNormal
-  prior_at g i j n = in_random n (g * 4 + i * 2 + j) (entry m i j)
+-- `add_prior`: group g's block gets the inverse m, and its right-hand side loses the inverse times its k effects b
+module _ (m : List (List Float)) (g k : ℕ) (b : List Float) where
+  abbrev pub prior_at : ℕ → ℕ → BlockNormal → BlockNormal
+  prior_at i j n = in_random n (g * 4 + i * 2 + j) (entry m i j)
 
-  abbrev pub prior_row : ℕ → ℕ → BlockNormal → BlockNormal
-  prior_row g i n = less_random_rhs (iter (prior_at g i) k n) (g * 2 + i) (times_of m i (part (g * k) k b))
+  abbrev pub prior_row : ℕ → BlockNormal → BlockNormal
+  prior_row i n = less_random_rhs (iter (prior_at i) k n) (g * 2 + i) (times_of m i b)
 
-  abbrev pub prior_group : ℕ → BlockNormal → BlockNormal
-  prior_group g n = iter (prior_row g) k n
+  unfoldable pub prior_group : BlockNormal → BlockNormal
+  prior_group n = iter prior_row k n
+
+abbrev pub prior_turn : ℕ → List (List Float) → List Float → ℕ → BlockNormal → BlockNormal
+prior_turn k m b g n = prior_group m g k (part (g * k) k b) n
 
 unfoldable pub add_priors : ℕ → ℕ → List (List Float) → List Float → BlockNormal → BlockNormal
-add_priors k groups m b n = iter (prior_group k m b) groups n
+add_priors k groups m b n = iter (prior_turn k m b) groups n
 
 -- effects for which there is no place add nothing
 unfoldable pub prior_of : ℕ → ℕ → List (List Float) → List Float → BlockNormal → BlockNormal
 prior_of k groups m b n = cond (leb k 2 && leb groups 32 && eqb (length b) (groups * k)) (add_priors k groups m b n) n
+
+-- opens these definitions in a proof
+unfoldable pub normal_steps : Unit {0}
+unfolding accumulate_of times_of prior_group add_priors prior_of
+normal_steps = tt

@@ -1,178 +1,201 @@
 // The direction group by group: a group's block, damped and solved; the fixed system less what it takes up; and
 // its effects. block_solve puts these together.
-#![tactic(auto)]
+#![tactic(auto, using(linalg::specs::laws::Loops::loops), unfolding(crate::specs::Groups::group_steps, crate::specs::Components::component_steps))]
 
-ghost use Rattle.std.specs.Prelude.{◌≡◌, ◌+◌, ◌*◌, ◌≤◌, ◌<◌, replicate, length};
-ghost use Rattle.math.specs.Basic.{zero, is_finite};
+ghost use Rattle.std.specs.Prelude.{◌≡◌, ◌+◌, ◌*◌, ◌≤◌, ◌<◌, ◌↔◌, IsSome, IfSome, IsTrue, length};
+ghost use Rattle.math.specs.Basic.{is_finite};
 ghost use Rattle.math.specs.Lists.{every};
-ghost use Rattle.group_blocks.specs.Columns.{damped_block, dot_of, columns_from, reduce_by, store_columns};
+ghost use Rattle.group_blocks.specs.Groups.{fits, damped_at, damped_block, dot_of, row_of, group_of, columns_of, solution_of, reduce_row, reduce_by};
 ghost use Rattle.group_blocks.specs.Components.{columns_times, effects_of, components_of};
 
 use linalg::elimination::System;
-use linalg::pair::Solved;
+use linalg::pair::solve_pair;
 
-// A group's block solved for each row of its cross block: column j stands at 2 j.
+// How many curve values, effects of a group and groups there are.
 #[derive(Clone, Copy)]
-pub struct Columns {
-    pub found: bool,
-    pub w: [f64; 8],
+pub struct Shape {
+    pub p: usize,
+    pub k: usize,
+    pub groups: usize,
+    ghost four_values: { p ≤ 4 },
+    ghost an_effect: { 1 ≤ k },
+    ghost two_effects: { k ≤ 2 },
+    ghost groups_32: { groups ≤ 32 },
 }
 
-pub fn damped_block(random: &[f64; 128], g: usize, damping: f64) -> [[f64; 2]; 2]
+impl Shape {
+    // None for sizes that there is no place for.
+    pub fn new(p: usize, k: usize, groups: usize) -> Option<Shape>
+        ensures fits { IsSome result ↔ IsTrue (fits p k groups) }
+        ensures same { IfSome result (λ s. (s.p ≡ p) × (s.k ≡ k) × (s.groups ≡ groups)) }
+    {
+        if p > 4 || k < 1 || k > 2 || groups > 32 {
+            return None;
+        }
+        Some(Shape { p, k, groups })
+    }
+
+    // How many components a direction has.
+    pub fn size(self) -> usize
+        ensures { result ≡ self.p + self.groups * self.k }
+    {
+        self.p + self.groups * self.k
+    }
+}
+
+// One group's part of the normal blocks: its block, damped, its right-hand side, and its cross block, a row for
+// each curve value.
+#[derive(Clone, Copy)]
+pub struct Group {
+    pub block: [[f64; 2]; 2],
+    pub rhs: (f64, f64),
+    pub cross: [(f64, f64); 4],
+}
+
+// The block solved for the right-hand side, and for each row of the cross block.
+#[derive(Clone, Copy)]
+pub struct Solution {
+    pub pair: (f64, f64),
+    pub columns: [(f64, f64); 4],
+}
+
+// A diagonal entry, damped by a share of itself, or of 1e-8 where that is more.
+pub fn damped(x: f64, damping: f64) -> f64
+    ensures { result ≡ damped_at damping x }
+{
+    x + damping * math::max(x, 1e-8)
+}
+
+fn damped_block(random: &[f64; 128], g: usize, damping: f64) -> [[f64; 2]; 2]
     requires { g < 32 }
     ensures { result ≡ damped_block random.now g damping }
 {
     let at = g * 4;
-    let a = random[at];
-    let d = random[at + 3];
-    let u = math::max(a, 1e-8);
-    let v = math::max(d, 1e-8);
     [
-        [a + damping * u, random[at + 1]],
-        [random[at + 2], d + damping * v],
+        [damped(random[at], damping), random[at + 1]],
+        [random[at + 2], damped(random[at + 3], damping)],
     ]
 }
 
+fn row(cross: &[f64; 256], g: usize, i: usize) -> (f64, f64)
+    requires { (g < 32) × (i < 4) }
+    ensures { result ≡ row_of cross.now g i }
+{
+    let at = g * 8 + i * 2;
+    (cross[at], cross[at + 1])
+}
+
 // A row of k numbers times a column.
-pub fn dot(k: usize, a: f64, b: f64, x: f64, y: f64) -> f64
-    ensures { result ≡ dot_of k a b x y }
+fn dot(k: usize, row: (f64, f64), column: (f64, f64)) -> f64
+    ensures { result ≡ dot_of k row column }
 {
-    if k == 1 {
-        return 0.0 + a * x;
-    }
-    0.0 + a * x + b * y
+    let t = 0.0 + row.0 * column.0;
+    if k == 1 { t } else { t + row.1 * column.1 }
 }
 
-pub fn solve_columns(k: usize, c: [[f64; 2]; 2], cross: &[f64; 256], g: usize, p: usize) -> Columns
-    requires { (g < 32) × (p ≤ 4) }
-    ensures { result ≡ columns_from k c cross.now g p 0 (replicate 8 zero) }
-{
-    let mut w = [0.0; 8];
-    let mut j = 0usize;
-    while j < p {
-        let at = g * 8 + j * 2;
-        let Solved::Pair(x, y) = linalg::pair::solve_pair(k, c, cross[at], cross[at + 1]) else {
-            return Columns {
-                found: false,
-                w: [0.0; 8],
-            };
-        };
-        let to = j * 2;
-        w[to] = x;
-        w[to + 1] = y;
-        j += 1;
-    }
-    Columns { found: true, w: w }
-}
-
-// The fixed system less the group's cross block times its columns w, and times its pair x, y.
-pub fn reduce(
-    s: System,
-    k: usize,
-    cross: &[f64; 256],
-    g: usize,
-    p: usize,
-    x: f64,
-    y: f64,
-    w: [f64; 8],
-) -> System
-    requires { (g < 32) × (p ≤ 4) }
-    ensures { result ≡ reduce_by k cross.now g p x y w s }
-{
-    let mut z = s;
-    let mut i = 0usize;
-    while i < p {
-        let at = g * 8 + i * 2;
-        let a = cross[at];
-        let b = cross[at + 1];
-        let mut j = 0usize;
-        while j < p {
-            let d = dot(k, a, b, w[j * 2], w[j * 2 + 1]);
-            let to = i * 4 + j;
-            z.a[to] = z.a[to] - d;
-            j += 1;
+impl Group {
+    pub fn new(
+        random: &[f64; 128],
+        cross: &[f64; 256],
+        rhs: &[f64; 64],
+        g: usize,
+        damping: f64,
+    ) -> Group
+        requires { g < 32 }
+        ensures { result ≡ group_of random.now cross.now rhs.now g damping }
+    {
+        Group {
+            block: damped_block(random, g, damping),
+            rhs: (rhs[g * 2], rhs[g * 2 + 1]),
+            cross: [
+                row(cross, g, 0),
+                row(cross, g, 1),
+                row(cross, g, 2),
+                row(cross, g, 3),
+            ],
         }
-        let e = dot(k, a, b, x, y);
-        z.b[i] = z.b[i] - e;
-        i += 1;
     }
-    z
+
+    fn columns(&self, shape: Shape) -> Option<[(f64, f64); 4]>
+        ensures { result ≡ columns_of shape.k shape.p self.now }
+    {
+        let mut w = [(0.0, 0.0); 4];
+        for j in 0..shape.p {
+            let (a, b) = self.cross[j];
+            w[j] = solve_pair(shape.k, self.block, a, b)?;
+        }
+        Some(w)
+    }
+
+    // None at a pivot that is exactly zero.
+    pub fn solve(&self, shape: Shape) -> Option<Solution>
+        ensures { result ≡ solution_of shape.k shape.p self.now }
+    {
+        let (x, y) = self.rhs;
+        let pair = solve_pair(shape.k, self.block, x, y)?;
+        let columns = self.columns(shape)?;
+        Some(Solution { pair, columns })
+    }
+
+    fn reduce_row(&self, s: &mut System, shape: Shape, solution: &Solution, i: usize)
+        requires { i < shape.p }
+        ensures { s.new ≡ reduce_row shape.k shape.p self.now solution.now i s.old }
+    {
+        let row = self.cross[i];
+        for j in 0..shape.p {
+            s.a[i * 4 + j] -= dot(shape.k, row, solution.columns[j]);
+        }
+        s.b[i] -= dot(shape.k, row, solution.pair);
+    }
+
+    // The fixed system less the cross block times the solved columns, its right-hand side less it times the pair.
+    pub fn reduce(&self, s: &mut System, shape: Shape, solution: &Solution)
+        ensures { s.new ≡ reduce_by shape.k shape.p self.now solution.now s.old }
+    {
+        for i in 0..shape.p {
+            self.reduce_row(s, shape, solution, i);
+        }
+    }
 }
 
-pub fn store_columns(w: &mut [f64; 256], g: usize, x: [f64; 8])
-    requires { g < 32 }
-    ensures { w.new ≡ store_columns g x w.old }
+// The columns times the fixed values x, from 0 on.
+fn columns_times(w: &[(f64, f64); 4], x: [f64; 4], p: usize) -> (f64, f64)
+    requires { p ≤ 4 }
+    ensures { result ≡ columns_times w.now x p }
 {
-    let mut i = 0usize;
-    while i < 8 {
-        w[g * 8 + i] = x[i];
-        i += 1;
-    }
-}
-
-// Row l of group g's columns times the fixed values x.
-pub fn columns_times(w: [f64; 256], x: [f64; 4], g: usize, l: usize, p: usize) -> f64
-    requires { (g < 32) × ((l < 2) × (p ≤ 4)) }
-    ensures { result ≡ columns_times w x g l p }
-{
-    let mut t = 0.0;
-    let mut j = 0usize;
-    while j < p {
-        t = t + w[g * 8 + j * 2 + l] * x[j];
-        j += 1;
+    let mut t = (0.0, 0.0);
+    for j in 0..p {
+        let (a, b) = w[j];
+        t = (t.0 + a * x[j], t.1 + b * x[j]);
     }
     t
 }
 
 // One group's effects, into its part of the direction.
-pub fn write_effects(out: &mut [f64], x: f64, y: f64)
+#[tactic(auto, using(crate::proofs::Laws::effects_take))]
+fn write_effects(out: &mut [f64], x: f64, y: f64)
     requires { (1 ≤ length out.old) × (length out.old ≤ 2) }
     ensures { out.new ≡ effects_of (length out.old) x y }
 {
-    out[0] = x;
-    if out.len() == 2 {
-        out[1] = y;
-    }
+    let n = out.len();
+    out.copy_from_slice(&[x, y][..n]);
 }
 
-pub fn write_direction(
-    out: &mut [f64],
-    p: usize,
-    k: usize,
-    groups: usize,
-    x: [f64; 4],
-    v: [f64; 64],
-    w: [f64; 256],
-)
-    requires { (p ≤ 4) × ((1 ≤ k) × ((k ≤ 2) × ((groups ≤ 32) × (length out.old ≡ p + groups * k)))) }
-    ensures { out.new ≡ components_of p k groups x v w }
+// The direction, from the fixed values x and the groups' solutions; whether each of its components is finite.
+#[tactic(auto, using(linalg::specs::laws::Loops::loops, crate::proofs::Laws::parts), unfolding(crate::specs::Components::component_steps))]
+pub fn write_direction(out: &mut [f64], shape: Shape, x: [f64; 4], solved: &[Solution; 32]) -> bool
+    requires { length out.old ≡ shape.p + shape.groups * shape.k }
+    ensures written { out.new ≡ components_of shape.p shape.k shape.groups x solved.now }
+    ensures finite { result ≡ every is_finite out.new }
 {
-    let mut i = 0usize;
-    while i < p {
-        out[i] = x[i];
-        i += 1;
-    }
-    let mut g = 0usize;
-    while g < groups {
-        let a = columns_times(w, x, g, 0, p);
-        let b = columns_times(w, x, g, 1, p);
-        let from = g * 2;
+    let p = shape.p;
+    let k = shape.k;
+    out[..p].copy_from_slice(&x[..p]);
+    for g in 0..shape.groups {
         let at = p + g * k;
-        write_effects(&mut out[at..at + k], v[from] - a, v[from + 1] - b);
-        g += 1;
+        let v = solved[g].pair;
+        let t = columns_times(&solved[g].columns, x, p);
+        write_effects(&mut out[at..at + k], v.0 - t.0, v.1 - t.1);
     }
-}
-
-pub fn all_finite(l: &[f64]) -> bool
-    ensures { result ≡ every is_finite l.now }
-{
-    let mut i = 0usize;
-    while i < l.len() {
-        let finite = math::is_finite(l[i]);
-        if !finite {
-            return false;
-        }
-        i += 1;
-    }
-    true
+    math::all_finite(out)
 }

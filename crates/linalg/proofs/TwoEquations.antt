@@ -1,19 +1,17 @@
 -- The pair solve is the elimination of two equations, and of one where there is one effect: the branches of both are the same tests. Assumes nothing.
-use mathlib.Core.Path.{◌≡◌, refl, ap, ◌∙◌}
-use mathlib.Core.Bool.{Bool, true, false, cond}
-use mathlib.Core.List.{[], ◌∷◌}
+use Rattle.std.proofs.Common.{◌≡◌, refl, Bool, true, false, cond, List, [], ◌∷◌, Option, Some, None}
+use Rattle.std.specs.Prelude.{option_map, option_and_then}
 use lib.Ieee.{Float, lt, eq}
 use Rattle.math.specs.Basic.{zero, abs_of}
-use Rattle.math.specs.Loops.{from, until}
+use Rattle.math.specs.Matrix.{rows}
+use Rattle.math.specs.Loops.{from}
 use Rattle.linalg.specs.declared.elimination.System.{System}
-use Rattle.linalg.specs.declared.elimination.Solution.{Solution}
-use Rattle.linalg.specs.declared.pair.Solved.{Solved}
-use Rattle.linalg.specs.declared.pair.Solved.TheVariants.{Pair, None}
-use Rattle.linalg.specs.Elimination.{better, pivot_of, swap_of, clear_row, back_of, none_of, eliminate_from}
-use Rattle.linalg.specs.Pair.{two_of, pair_of, rows_of}
+use Rattle.linalg.specs.Loops.{down, tries}
+use Rattle.linalg.specs.Elimination.{elimination_steps, eliminate_of}
+use Rattle.linalg.specs.Pair.{two_of, pair_of, eliminated}
 
 -- the system with rows a b | r and c d | s
-abbrev system_of : Float → Float → Float → Float → Float → Float → System
+abbrev pub system_of : Float → Float → Float → Float → Float → Float → System
 system_of a b r c d s =
     record {
       a = a ∷ b ∷ zero ∷ zero ∷ c ∷ d ∷ zero ∷ zero ∷ zero ∷ zero ∷ zero ∷ zero ∷ zero ∷ zero ∷ zero ∷ zero ∷ [];
@@ -21,25 +19,32 @@ system_of a b r c d s =
     }
 
 -- the same answer as a solution
-abbrev solution_of : Solved → Solution
-solution_of (Pair x y) = record { found = true; x = x ∷ y ∷ zero ∷ zero ∷ [] }
-solution_of None = none_of
+abbrev pub solution_of : Option (Float × Float) → Option (List Float)
+solution_of = option_map (λ p. p.0 ∷ p.1 ∷ zero ∷ zero ∷ [])
 
-pick_both : {A B : Type 0} (f : A → B) (t : Bool) (x y : A) → f (cond t x y) ≡ cond t (f x) (f y)
-pick_both f true x y = refl
-pick_both f false x y = refl
+-- one test, and where it fails one answer
+one_test : {A C D : Type 0} (t : Bool) (f : A → D) (p : A) (g : C → D) (y : C) → f p ≡ g y → option_map f (cond t None (Some p)) ≡ option_map g (cond t None (Some y))
+one_test true f p g y d = refl
+one_test false f p g y d = rw d
+
+-- two tests in turn, and where both fail one answer
+two_tests : {A B C D : Type 0} (t u : Bool) (f : A → D) (p : A) (g : C → D) (h : B → Option C) (x : B) (y : C) → h x ≡ cond u None (Some y) → f p ≡ g y
+    → option_map f (cond t None (cond u None (Some p))) ≡ option_map g (option_and_then h (cond t None (Some x)))
+two_tests true u f p g h x y e d = refl
+two_tests false true f p g h x y e d = rw e
+two_tests false false f p g h x y e d = rw (e, d)
 
 module _ (a b r c d s : Float) where
   two_equations : (t : Bool) → lt (abs_of a) (abs_of c) ≡ t
-      → solution_of (cond t (rows_of c d s a b r) (rows_of a b r c d s)) ≡ eliminate_from 2 0 (system_of a b r c d s)
-  unfolding from until better pivot_of swap_of clear_row back_of eliminate_from
-  two_equations true h = rw h (pick_both solution_of (eq c zero) None _ ∙ ap (cond (eq c zero) none_of) (pick_both solution_of (eq _ zero) None _))
-  two_equations false h = rw h (pick_both solution_of (eq a zero) None _ ∙ ap (cond (eq a zero) none_of) (pick_both solution_of (eq _ zero) None _))
+      → solution_of (cond t (eliminated c d s a b r) (eliminated a b r c d s)) ≡ eliminate_of 2 (system_of a b r c d s)
+  unfolding from down tries elimination_steps
+  two_equations true h = rw h (two_tests (eq c zero) _ _ _ _ _ _ _ refl refl)
+  two_equations false h = rw h (two_tests (eq a zero) _ _ _ _ _ _ _ refl refl)
 
-  pub pair_eliminates : solution_of (two_of ((a ∷ b ∷ []) ∷ (c ∷ d ∷ []) ∷ []) r s) ≡ eliminate_from 2 0 (system_of a b r c d s)
+  pub pair_eliminates : solution_of (two_of (rows a b c d) r s) ≡ eliminate_of 2 (system_of a b r c d s)
   unfolding two_of
   pair_eliminates = two_equations (lt (abs_of a) (abs_of c)) refl
 
-  pub one_eliminates : solution_of (pair_of 1 ((a ∷ b ∷ []) ∷ (c ∷ d ∷ []) ∷ []) r s) ≡ eliminate_from 1 0 (system_of a b r c d s)
-  unfolding from until better pivot_of swap_of clear_row back_of eliminate_from pair_of
-  one_eliminates = pick_both solution_of (eq a zero) None _
+  pub one_eliminates : solution_of (pair_of 1 (rows a b c d) r s) ≡ eliminate_of 1 (system_of a b r c d s)
+  unfolding from down tries elimination_steps pair_of
+  one_eliminates = one_test (eq a zero) _ _ _ _ refl

@@ -1,11 +1,12 @@
 -- Document 01, 'The direction': elimination with partial pivoting on the first n rows and columns of a system of four, and back substitution.
-use Rattle.std.specs.Prelude.{ℕ, ◌+◌, ◌*◌, ◌-◌, Bool, true, false, cond, List, leb, Float, get_or, set, replicate}
+use Rattle.std.specs.Prelude.{ℕ, ◌+◌, ◌*◌, cond, List, leb, Float, get_or, set, replicate, Option, Some, None, option_map}
+use Rattle.std.specs.List.{swap}
 use Rattle.std.specs.Float.{nan}
 use Rattle.std.specs.Float.Ieee.{lt, eq}
 use Rattle.math.specs.Basic.{sub, mul, div, zero, abs_of}
-use Rattle.math.specs.Loops.{span, until}
+use Rattle.math.specs.Loops.{span}
 use Rattle.linalg.specs.declared.elimination.System.{System}
-use Rattle.linalg.specs.declared.elimination.Solution.{Solution}
+use Rattle.linalg.specs.Loops.{down, tries}
 
 -- entry i, j of a, four places to a row
 abbrev pub at : List Float → ℕ → ℕ → Float
@@ -19,14 +20,11 @@ unfoldable pub pivot_of : ℕ → List Float → ℕ → ℕ
 pivot_of n a i = span (better a i) (i + 1) n i
 
 -- rows i and q change places, the right-hand side alike
-abbrev pub swap_at : List Float → ℕ → ℕ → List Float
-swap_at l x y = set (set l x (get_or l y nan)) y (get_or l x nan)
-
 abbrev pub swap_column : ℕ → ℕ → ℕ → List Float → List Float
-swap_column i q j a = swap_at a (i * 4 + j) (q * 4 + j)
+swap_column i q j a = swap a (i * 4 + j) (q * 4 + j)
 
 unfoldable pub swap_of : ℕ → ℕ → ℕ → System → System
-swap_of n i q s = record { a = span (swap_column i q) 0 n s.a; b = swap_at s.b i q }
+swap_of n i q s = record { a = span (swap_column i q) 0 n s.a; b = swap s.b i q }
 
 -- row r less (its entry / pivot) times the pivot's row i, the right-hand side alike
 abbrev pub less_at : ℕ → ℕ → Float → ℕ → List Float → List Float
@@ -42,32 +40,32 @@ abbrev pub less_known : List Float → List Float → ℕ → ℕ → Float → 
 less_known a x i j v = sub v (mul (at a i j) (get_or x j nan))
 
 abbrev pub known : ℕ → System → ℕ → List Float → List Float
-known n s t x =
-    let i = n - 1 - t in
-    set x i (div (span (less_known s.a x i) (i + 1) n (get_or s.b i nan)) (at s.a i i))
+known n s i x = set x i (div (span (less_known s.a x i) (i + 1) n (get_or s.b i nan)) (at s.a i i))
 
-unfoldable pub back_of : ℕ → System → Solution
-back_of n s = record { found = true; x = span (known n s) 0 n (replicate 4 zero) }
-
-abbrev pub none_of : Solution
-none_of = record { found = false; x = replicate 4 zero }
+unfoldable pub back_of : ℕ → System → List Float
+back_of n s = down (known n s) n (replicate 4 zero)
 
 module _ (n : ℕ) where
   -- the pivot's row brought to the diagonal
   abbrev pub turned : ℕ → System → System
   turned i s = swap_of n i (pivot_of n s.a i) s
 
-  -- the pivot is exactly zero
-  abbrev pub stopped : ℕ → System → Bool
-  stopped i s = eq (at (turned i s).a i i) zero
-
   -- each lower row cleared, in rising order
   abbrev pub cleared : ℕ → System → System
-  cleared i s = span (clear_row n i) (i + 1) n (turned i s)
+  cleared i s = span (clear_row n i) (i + 1) n s
 
-  unfoldable pub eliminate_from : ℕ → System → Solution
-  eliminate_from i s = until stopped (λ i s. none_of) cleared (back_of n) (n - i) i s
+  -- column i: none where the pivot is exactly zero
+  unfoldable pub column_of : ℕ → System → Option System
+  column_of i s = cond (eq (at (turned i s).a i i) zero) None (Some (cleared i (turned i s)))
+
+  unfoldable pub eliminate_of : System → Option (List Float)
+  eliminate_of s = option_map (back_of n) (tries column_of n s)
 
 -- the solution of n equations; none at an exactly zero pivot, and for more than four
-unfoldable pub solve_of : ℕ → System → Solution
-solve_of n s = cond (leb n 4) (eliminate_from n 0 s) none_of
+unfoldable pub solve_of : ℕ → System → Option (List Float)
+solve_of n s = cond (leb n 4) (eliminate_of n s) None
+
+-- opens these definitions in a proof
+unfoldable pub elimination_steps : Unit {0}
+unfolding better pivot_of swap_of clear_row column_of back_of eliminate_of solve_of
+elimination_steps = tt

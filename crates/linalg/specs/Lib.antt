@@ -1,3 +1,4 @@
 pub mod Elimination
+pub mod Loops
 pub mod Pair
 pub mod laws

@@ -1,6 +1,8 @@
 // Gaussian elimination with partial pivoting and back substitution, for at most four equations.
+#![tactic(auto, using(crate::specs::laws::Loops::loops), unfolding(crate::specs::Elimination::elimination_steps))]
+
 ghost use Rattle.std.specs.Prelude.{◌≡◌, ◌≤◌, ◌<◌};
-ghost use Rattle.linalg.specs.Elimination.{pivot_of, swap_of, clear_row, back_of, eliminate_from, solve_of};
+ghost use Rattle.linalg.specs.Elimination.{pivot_of, swap_of, clear_row, column_of, back_of, eliminate_of, solve_of};
 
 // a x = b. Row i of a stands at 4 i; of n equations the first n rows and columns count.
 #[derive(Clone, Copy)]
@@ -9,127 +11,89 @@ pub struct System {
     pub b: [f64; 4],
 }
 
-// x with its first n places solved and +0 after, or no solution and +0 in every place.
-#[derive(Clone, Copy)]
-pub struct Solution {
-    pub found: bool,
-    pub x: [f64; 4],
-}
-
-// The row of the largest entry in column i from the diagonal down; of equals the first.
-fn pivot_row(a: [f64; 16], n: usize, i: usize) -> usize
-    requires { (n ≤ 4) × (i < n) }
-    ensures { (result < n) × (result ≡ pivot_of n a i) }
-{
-    let mut best = i;
-    let mut r = i + 1;
-    while r < n {
-        let was = math::abs(a[best * 4 + i]);
-        let is = math::abs(a[r * 4 + i]);
-        if was < is {
-            best = r;
+impl System {
+    // The row of the largest entry in column i from the diagonal down; of equals the first.
+    fn pivot_row(&self, n: usize, i: usize) -> usize
+        requires { (n ≤ 4) × (i < n) }
+        ensures { (result < n) × (result ≡ pivot_of n self.now.a i) }
+    {
+        let mut best = i;
+        for r in i + 1..n {
+            if math::abs(self.a[best * 4 + i]) < math::abs(self.a[r * 4 + i]) {
+                best = r;
+            }
         }
-        r += 1;
+        best
     }
-    best
+
+    fn swap_rows(&mut self, n: usize, i: usize, q: usize)
+        requires { (n ≤ 4) × ((i < n) × (q < n)) }
+        ensures { self.new ≡ swap_of n i q self.old }
+    {
+        for j in 0..n {
+            self.a.swap(i * 4 + j, q * 4 + j);
+        }
+        self.b.swap(i, q);
+    }
+
+    // Row r less (its entry / the pivot) times the pivot row i.
+    fn clear_row(&mut self, n: usize, i: usize, r: usize)
+        requires { (n ≤ 4) × ((i < n) × (r < n)) }
+        ensures { self.new ≡ clear_row n i r self.old }
+    {
+        let f = self.a[r * 4 + i] / self.a[i * 4 + i];
+        for j in i..n {
+            self.a[r * 4 + j] -= f * self.a[i * 4 + j];
+        }
+        self.b[r] -= f * self.b[i];
+    }
+
+    // Column i's pivot brought to the diagonal and the rows below it cleared; none where the pivot is exactly zero.
+    fn clear_column(mut self, n: usize, i: usize) -> Option<System>
+        requires { (n ≤ 4) × (i < n) }
+        ensures { result ≡ column_of n i self }
+    {
+        let q = self.pivot_row(n, i);
+        self.swap_rows(n, i, q);
+        if self.a[i * 4 + i] == 0.0 {
+            return None;
+        }
+        for r in i + 1..n {
+            self.clear_row(n, i, r);
+        }
+        Some(self)
+    }
+
+    // From the last row up; +0 in the places after the first n.
+    fn back_substitute(&self, n: usize) -> [f64; 4]
+        requires { n ≤ 4 }
+        ensures { result ≡ back_of n self.now }
+    {
+        let mut x = [0.0; 4];
+        for i in (0..n).rev() {
+            let mut v = self.b[i];
+            for j in i + 1..n {
+                v -= self.a[i * 4 + j] * x[j];
+            }
+            x[i] = v / self.a[i * 4 + i];
+        }
+        x
+    }
 }
 
-fn swap_rows(s: System, n: usize, i: usize, q: usize) -> System
-    requires { (n ≤ 4) × ((i < n) × (q < n)) }
-    ensures { result ≡ swap_of n i q s }
-{
-    let mut a = s.a;
-    let mut b = s.b;
-    let mut j = 0usize;
-    while j < n {
-        let x = i * 4 + j;
-        let y = q * 4 + j;
-        let u = a[x];
-        a[x] = a[y];
-        a[y] = u;
-        j += 1;
-    }
-    let t = b[i];
-    b[i] = b[q];
-    b[q] = t;
-    System { a: a, b: b }
-}
-
-// Row r less (its entry / the pivot) times the pivot row i.
-fn clear_row(s: System, n: usize, i: usize, r: usize) -> System
-    requires { (n ≤ 4) × ((i < n) × (r < n)) }
-    ensures { result ≡ clear_row n i r s }
-{
-    let mut a = s.a;
-    let mut b = s.b;
-    let f = a[r * 4 + i] / a[i * 4 + i];
-    let mut j = i;
-    while j < n {
-        a[r * 4 + j] = a[r * 4 + j] - f * a[i * 4 + j];
-        j += 1;
-    }
-    b[r] = b[r] - f * b[i];
-    System { a: a, b: b }
-}
-
-fn back_substitute(s: System, n: usize) -> Solution
+fn eliminate(mut s: System, n: usize) -> Option<[f64; 4]>
     requires { n ≤ 4 }
-    ensures { result ≡ back_of n s }
+    ensures { result ≡ eliminate_of n s }
 {
-    let a = s.a;
-    let b = s.b;
-    let mut x = [0.0; 4];
-    let mut t = 0usize;
-    while t < n {
-        let i = n - 1 - t;
-        let mut v = b[i];
-        let mut j = i + 1;
-        while j < n {
-            v = v - a[i * 4 + j] * x[j];
-            j += 1;
-        }
-        x[i] = v / a[i * 4 + i];
-        t += 1;
+    for i in 0..n {
+        s = s.clear_column(n, i)?;
     }
-    Solution { found: true, x: x }
-}
-
-fn eliminate(s: System, n: usize) -> Solution
-    requires { n ≤ 4 }
-    ensures { result ≡ eliminate_from n 0 s }
-{
-    let mut z = s;
-    let mut i = 0usize;
-    while i < n {
-        let a = z.a;
-        let q = pivot_row(a, n, i);
-        z = swap_rows(z, n, i, q);
-        let d = z.a[i * 4 + i];
-        if d == 0.0 {
-            return Solution {
-                found: false,
-                x: [0.0; 4],
-            };
-        }
-        let mut r = i + 1;
-        while r < n {
-            z = clear_row(z, n, i, r);
-            r += 1;
-        }
-        i += 1;
-    }
-    back_substitute(z, n)
+    Some(s.back_substitute(n))
 }
 
 // The first n equations solved; none at a pivot that is exactly zero, and for more than four equations.
-pub fn solve(s: System, n: usize) -> Solution
+pub fn solve(s: System, n: usize) -> Option<[f64; 4]>
     ensures { result ≡ solve_of n s }
 {
-    if n > 4 {
-        return Solution {
-            found: false,
-            x: [0.0; 4],
-        };
-    }
-    eliminate(s, n)
+    if n > 4 { None } else { eliminate(s, n) }
 }

@@ -1,12 +1,14 @@
 // The covariance of one or two random effects from packed theta (re_cov.rs), and one group's penalty.
 // k is the number of effects: 1, and any other counts as 2. Theta holds the lower factor by columns,
 // one number or three. For one effect the entries that are not used are +0.
+// k and theta stay two parameters, as in the Rust: every caller has them apart, and a struct would be made for the call alone.
 #![tactic(auto)]
 
 ghost use Rattle.std.specs.Prelude.{◌≡◌};
 ghost use Rattle.re_cov.specs.ReCov.{lower_chol_of, dot_of, sigma_of, inverse_from, inverse_of, log_det_of, lower_solve_of, penalty_of};
 
 // The lower factor; its diagonal is not below 1e-8.
+#[tactic(auto, unfolding(crate::specs::ReCov::lower_chol_of))]
 pub fn lower_chol(k: usize, theta: &[f64]) -> [[f64; 2]; 2]
     ensures { result ≡ lower_chol_of k theta.now }
 {
@@ -17,29 +19,26 @@ pub fn lower_chol(k: usize, theta: &[f64]) -> [[f64; 2]; 2]
     }
     let b = math::at(theta, 1);
     let last = math::at(theta, 2);
-    let c = math::max(last, 1e-8);
-    [[a, 0.0], [b, c]]
+    [[a, 0.0], [b, math::max(last, 1e-8)]]
 }
 
-// The product of two rows of two.
-fn dot(a: f64, b: f64, c: f64, d: f64) -> f64
+// The product of two rows of two, from 0.
+#[tactic(auto, unfolding(crate::specs::ReCov::dot_of))]
+pub fn dot(a: f64, b: f64, c: f64, d: f64) -> f64
     ensures { result ≡ dot_of a b c d }
 {
     0.0 + a * c + b * d
 }
 
 // The factor times its transpose.
+#[tactic(auto, unfolding(crate::specs::ReCov::sigma_of))]
 pub fn sigma_from_theta(k: usize, theta: &[f64]) -> [[f64; 2]; 2]
     ensures { result ≡ sigma_of k theta.now }
 {
-    let l = lower_chol(k, theta);
-    let a = l[0][0];
+    let [[a, o], [b, c]] = lower_chol(k, theta);
     if k == 1 {
         return [[0.0 + a * a, 0.0], [0.0, 0.0]];
     }
-    let o = l[0][1];
-    let b = l[1][0];
-    let c = l[1][1];
     [
         [dot(a, o, a, o), dot(a, o, b, c)],
         [dot(b, c, a, o), dot(b, c, b, c)],
@@ -47,29 +46,28 @@ pub fn sigma_from_theta(k: usize, theta: &[f64]) -> [[f64; 2]; 2]
 }
 
 // The inverse in closed form; what it divides by is not below 1e-16.
+#[tactic(auto, unfolding(crate::specs::ReCov::inverse_from, crate::specs::ReCov::det_of))]
 fn inverse(k: usize, sigma: [[f64; 2]; 2]) -> [[f64; 2]; 2]
     ensures { result ≡ inverse_from k sigma }
 {
-    let a = sigma[0][0];
+    let [[a, b], [c, d]] = sigma;
     if k == 1 {
         let v = math::max(a, 1e-16);
         return [[1.0 / v, 0.0], [0.0, 0.0]];
     }
-    let b = sigma[0][1];
-    let c = sigma[1][0];
-    let d = sigma[1][1];
     let det = math::max(a * d - b * c, 1e-16);
     [[d / det, -b / det], [-c / det, a / det]]
 }
 
+#[tactic(auto, unfolding(crate::specs::ReCov::inverse_of))]
 pub fn sigma_inv_from_theta(k: usize, theta: &[f64]) -> [[f64; 2]; 2]
     ensures { result ≡ inverse_of k theta.now }
 {
-    let sigma = sigma_from_theta(k, theta);
-    inverse(k, sigma)
+    inverse(k, sigma_from_theta(k, theta))
 }
 
 // The logarithm of the covariance's determinant.
+#[tactic(auto, unfolding(crate::specs::ReCov::log_det_of))]
 pub fn log_det_sigma(k: usize, theta: &[f64]) -> f64
     ensures { result ≡ log_det_of k theta.now }
 {
@@ -82,6 +80,7 @@ pub fn log_det_sigma(k: usize, theta: &[f64]) -> f64
 }
 
 // The x of L x = rhs, L being the lower factor; for one effect the second place is +0.
+#[tactic(auto, unfolding(crate::specs::ReCov::lower_solve_of))]
 pub fn lower_solve(k: usize, theta: &[f64], rhs: &[f64]) -> [f64; 2]
     ensures { result ≡ lower_solve_of k theta.now rhs.now }
 {
@@ -90,19 +89,16 @@ pub fn lower_solve(k: usize, theta: &[f64], rhs: &[f64]) -> [f64; 2]
     if k == 1 {
         return [x, 0.0];
     }
-    let s = math::at(rhs, 1) - l[1][0] * x;
-    let y = s / math::max(l[1][1], 1e-12);
+    let y = (math::at(rhs, 1) - l[1][0] * x) / math::max(l[1][1], 1e-12);
     [x, y]
 }
 
 // The penalty of one group's effects b: the squares of the x of L x = b.
+#[tactic(auto, unfolding(crate::specs::ReCov::penalty_of))]
 pub fn re_penalty(k: usize, theta: &[f64], b: &[f64]) -> f64
     ensures { result ≡ penalty_of k theta.now b.now }
 {
-    let r = lower_solve(k, theta, b);
-    let first = 0.0 + r[0] * r[0];
-    if k == 1 {
-        return first;
-    }
-    first + r[1] * r[1]
+    let [x, y] = lower_solve(k, theta, b);
+    let first = 0.0 + x * x;
+    if k == 1 { first } else { first + y * y }
 }

@@ -1,4 +1,4 @@
-pub mod ScanLaws
-pub mod Tens
-pub mod PartLaws
+pub mod AnswerLaws
 pub mod Nearest
+pub mod NumberLaws
+pub mod Tens

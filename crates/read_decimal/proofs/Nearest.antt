@@ -1,6 +1,6 @@
 -- The theorem: a decimal that is taken becomes the nearest float to it, a tie going to the even one.
 -- The digits, below 10 ^ 15, and the power of ten, up to 10 ^ 22 = 5 ^ 22 * 2 ^ 22 with 5 ^ 22 below 2 ^ 53, are floats without rounding; so the one product or quotient is the exact decimal rounded once. Assumes nothing.
-use Rattle.std.proofs.Common.{◌≡◌, ℕ, zero, suc, ◌+◌, ◌-◌, ◌*◌, ◌^◌, ◌<◌, ◌≤◌, Bool, true, false, cond, not, eqb, ltb, leb, List, sym, refl, ap, ◌∙◌, lt_of_lt_of_le, lt_of_le_of_lt, le_of_lt, zero-lt-suc, mul_assoc, mul_comm, mul-pos, pow-suc, zero-mul, mul-one, mul_left_comm, arith, lit<, pow_mono, pow-add, shl_lt, ltb-true, ne_eqb, leb-false, leb-true}
+use Rattle.std.proofs.Common.{◌≡◌, ℕ, zero, suc, ◌+◌, ◌-◌, ◌*◌, ◌^◌, ◌<◌, ◌≤◌, Bool, true, false, cond, Ok, Err, not, eqb, ltb, leb, List, sym, refl, ap, ◌∙◌, lt_of_lt_of_le, lt_of_le_of_lt, le_of_lt, zero-lt-suc, mul_assoc, mul_comm, mul-pos, pow-suc, zero-mul, mul-one, mul_left_comm, arith, lit<, pow_mono, pow-add, shl_lt, ltb-true, ne_eqb, leb-false, leb-true}
 use native.Mathlib.Nat.{mul-mul-mul_comm, pow-le-pow_right, one-le-pow}
 use lib.Ieee.{Float, nan, inf, fin, binary64, up, down, unlike, round, neg, of_int}
 use lib.Ieee as Ieee
@@ -12,7 +12,7 @@ use lib.Ieee.Scale.{round_same}
 use Rattle.math.specs.Basic.{mul, div}
 use Rattle.read_decimal.specs.Scan.{limit}
 use Rattle.read_decimal.specs.Decimal.{is_decimal, is_negative, mantissa_of, written_of, up_of, down_of, signed, tens, scaled_of, number_of, decimal_of}
-use Rattle.read_decimal.specs.declared.Decimal.{Decimal}
+use Rattle.read_decimal.specs.declared.DecimalError.{DecimalError}
 
 -- ---- the digits and the power of ten are exact
 neg_value : (x : Float) (a c : ℕ) → HasValue x false a c → HasValue (neg x) true a c
@@ -114,36 +114,27 @@ module _ (s : Bool) (m up down : ℕ) (small : m < limit) where
       (ap (λ (z : ℕ). m * z) (ap (λ (z : ℕ). 10 ^ z) (sym (back down up h)) ∙ pow-add 10 (down - up) up ∙ mul_comm (10 ^ (down - up)) (10 ^ up))
       ∙ sym (mul_assoc m (10 ^ up) (10 ^ (down - up))))
 
-  same_value : (y x : Float) → Decimal.Value y ≡ Decimal.Value x → y ≡ x
-  same_value y x e = cc
-
-  no_fault : (k : ℕ) (x : Float) → Decimal.Fault k ≡ Decimal.Value x → ⊥
-  no_fault k x e = let z : ◌≡◌ {A = ℕ} 0 1 = cc in omega arith
-
-  pub scaled_nearest : (x : Float) → scaled_of s m up down ≡ Decimal.Value x → x ≡ rounded
+  pub scaled_nearest : (x : Float) → scaled_of s m up down ≡ Ok x → x ≡ rounded
   unfolding scaled_of
   scaled_nearest x = go (leb down up) refl (leb (up - down) 22) refl (leb (down - up) 22) refl
     where
       go : (b : Bool) → leb down up ≡ b → (d : Bool) → leb (up - down) 22 ≡ d → (f : Bool) → leb (down - up) 22 ≡ f
-          → cond b (cond d (Decimal.Value (mul (signed s m) (tens (up - down)))) (Decimal.Fault 3)) (cond f (Decimal.Value (div (signed s m) (tens (down - up)))) (Decimal.Fault 3)) ≡ Decimal.Value x
+          → cond b (cond d (Ok (mul (signed s m) (tens (up - down)))) (Err DecimalError.PowerOutOfRange)) (cond f (Ok (div (signed s m) (tens (down - up)))) (Err DecimalError.PowerOutOfRange)) ≡ Ok x
           → x ≡ rounded
-      go true p true q f r e = sym (same_value (mul (signed s m) (tens (up - down))) x e) ∙ times (leb-true down up p) (leb-true (up - down) 22 q)
-      go true p false q f r e = absurd (no_fault 3 x e)
-      go false p d q true r e = sym (same_value (div (signed s m) (tens (down - up))) x e) ∙ over (le_of_lt (leb-false down up p)) (leb-true (down - up) 22 r)
-      go false p d q false r e = absurd (no_fault 3 x e)
+      go true p true q f r e = let is : x ≡ mul (signed s m) (tens (up - down)) = cc in is ∙ times (leb-true down up p) (leb-true (up - down) 22 q)
+      go true p false q f r e = cc
+      go false p d q true r e = let is : x ≡ div (signed s m) (tens (down - up)) = cc in is ∙ over (le_of_lt (leb-false down up p)) (leb-true (down - up) 22 r)
+      go false p d q false r e = cc
 
 -- every text that is taken: the float is mantissa_of * 10 ^ up_of / 10 ^ down_of, with its sign, rounded once
-pub decimal_nearest : (text : List ℕ) (x : Float) → decimal_of text ≡ Decimal.Value x → x ≡ round binary64 (is_negative text) (mantissa_of text * 10 ^ up_of text) (10 ^ down_of text)
+pub decimal_nearest : (text : List ℕ) (x : Float) → decimal_of text ≡ Ok x → x ≡ round binary64 (is_negative text) (mantissa_of text * 10 ^ up_of text) (10 ^ down_of text)
 unfolding decimal_of number_of
 decimal_nearest text x = go (is_decimal text) (ltb (mantissa_of text) limit) refl (ltb (written_of text) limit)
   where
-    out : (k : ℕ) → Decimal.Fault k ≡ Decimal.Value x → ⊥
-    out k e = let z : ◌≡◌ {A = ℕ} 0 1 = cc in omega arith
-
     go : (a b : Bool) → ltb (mantissa_of text) limit ≡ b → (d : Bool)
-        → cond a (cond b (cond d (scaled_of (is_negative text) (mantissa_of text) (up_of text) (down_of text)) (Decimal.Fault 3)) (Decimal.Fault 2)) (Decimal.Fault 1) ≡ Decimal.Value x
+        → cond a (cond b (cond d (scaled_of (is_negative text) (mantissa_of text) (up_of text) (down_of text)) (Err DecimalError.PowerOutOfRange)) (Err DecimalError.TooManyDigits)) (Err DecimalError.NotADecimal) ≡ Ok x
         → x ≡ round binary64 (is_negative text) (mantissa_of text * 10 ^ up_of text) (10 ^ down_of text)
     go true true p true e = scaled_nearest (is_negative text) (mantissa_of text) (up_of text) (down_of text) (ltb-true (mantissa_of text) limit p) x e
-    go true true p false e = absurd (out 3 e)
-    go true false p d e = absurd (out 2 e)
-    go false b p d e = absurd (out 1 e)
+    go true true p false e = cc
+    go true false p d e = cc
+    go false b p d e = cc

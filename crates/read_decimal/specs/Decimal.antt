@@ -1,12 +1,12 @@
 -- What a decimal says: an optional sign, digits with at most one point, and an optional power of ten, `e` or `E` with an optional sign and digits.
 -- Every digit counts as significant but the zeros before the first other one: 0.000123 has three, 1.500 four.
-use Rattle.std.specs.Prelude.{ℕ, ◌+◌, ◌-◌, ◌^◌, Bool, cond, ◌&&◌, ◌||◌, List, ◌++◌, length, pos, ◌==◌, nat_le, nat_lt, Float}
+use Rattle.std.specs.Prelude.{ℕ, ◌+◌, ◌-◌, ◌^◌, Bool, cond, ◌&&◌, ◌||◌, List, ◌++◌, length, pos, ◌==◌, nat_le, nat_lt, Float, Result, Ok, Err}
 use Rattle.std.specs.Float.{binary64}
 use Rattle.std.specs.Float.Ieee.{of_int, neg}
 use Rattle.math.specs.Basic.{mul, div}
 use Rattle.math.specs.Parts.{part}
 use Rattle.read_decimal.specs.Scan.{is, after, digits_end, value, limit}
-use Rattle.read_decimal.specs.declared.Decimal.{Decimal}
+use Rattle.read_decimal.specs.declared.DecimalError.{DecimalError}
 
 -- ---- the parts of a text, by their places
 
@@ -83,18 +83,24 @@ unfoldable pub tens : ℕ → Float
 tens k = of_int binary64 (pos (10 ^ k))
 
 -- one product or one quotient, rounded once; no answer where the power of ten is not from -22 to 22
-unfoldable pub scaled_of : Bool → ℕ → ℕ → ℕ → Decimal
+unfoldable pub scaled_of : Bool → ℕ → ℕ → ℕ → Result Float DecimalError
 scaled_of s m up down =
     cond (nat_le down up)
-    (cond (nat_le (up - down) 22) (Decimal.Value (mul (signed s m) (tens (up - down)))) (Decimal.Fault 3))
-    (cond (nat_le (down - up) 22) (Decimal.Value (div (signed s m) (tens (down - up)))) (Decimal.Fault 3))
+    (cond (nat_le (up - down) 22) (Ok (mul (signed s m) (tens (up - down)))) (Err DecimalError.PowerOutOfRange))
+    (cond (nat_le (down - up) 22) (Ok (div (signed s m) (tens (down - up)))) (Err DecimalError.PowerOutOfRange))
 
 -- the faults in their order; a power of ten of 10 ^ 15 or more is out of range whatever the digits after the point
-unfoldable pub number_of : List ℕ → Decimal
+unfoldable pub number_of : List ℕ → Result Float DecimalError
 number_of text =
     cond (nat_lt (mantissa_of text) limit)
-    (cond (nat_lt (written_of text) limit) (scaled_of (is_negative text) (mantissa_of text) (up_of text) (down_of text)) (Decimal.Fault 3))
-    (Decimal.Fault 2)
+    (cond (nat_lt (written_of text) limit) (scaled_of (is_negative text) (mantissa_of text) (up_of text) (down_of text)) (Err DecimalError.PowerOutOfRange))
+    (Err DecimalError.TooManyDigits)
 
-unfoldable pub decimal_of : List ℕ → Decimal
-decimal_of text = cond (is_decimal text) (number_of text) (Decimal.Fault 1)
+unfoldable pub decimal_of : List ℕ → Result Float DecimalError
+decimal_of text = cond (is_decimal text) (number_of text) (Err DecimalError.NotADecimal)
+
+-- the faults' numbers
+abbrev pub error_number : DecimalError → ℕ
+error_number DecimalError.NotADecimal = 1
+error_number DecimalError.TooManyDigits = 2
+error_number DecimalError.PowerOutOfRange = 3

@@ -1,29 +1,31 @@
 -- What the two parts of the reader hand on.
-use Rattle.std.specs.Prelude.{ℕ, ◌+◌, cond, List, nat_lt}
+use Rattle.std.specs.Prelude.{ℕ, ◌+◌, cond, List, nat_le, nat_lt, Float, Result, Ok, Err}
 use Rattle.read_decimal.specs.Scan.{capped, limit}
-use Rattle.read_decimal.specs.Decimal.{has_digit, ends_right, is_negative, is_small, mantissa_of, places_of, written_of, fraction_end, scaled_of}
-use Rattle.read_decimal.specs.declared.Decimal.{Decimal}
+use Rattle.read_decimal.specs.Decimal.{has_digit, ends_right, is_negative, is_small, mantissa_of, places_of, written_of, fraction_end, scaled_of, tens}
+use Rattle.read_decimal.specs.declared.DecimalError.{DecimalError}
 use Rattle.read_decimal.specs.declared.parts.Mantissa.{Mantissa}
 use Rattle.read_decimal.specs.declared.parts.Power.{Power}
 
-unfoldable pub read_mantissa : List ℕ → Mantissa
+-- the digits, where there is one
+unfoldable pub read_mantissa : List ℕ → Result Mantissa DecimalError
 read_mantissa text =
-    record {
-      negative = is_negative text;
-      some = has_digit text;
-      digits = capped (mantissa_of text);
-      places = places_of text;
-      end = fraction_end text;
-    }
+    cond (has_digit text)
+    (Ok (record { negative = is_negative text; digits = capped (mantissa_of text); places = places_of text; end = fraction_end text }))
+    (Err DecimalError.NotADecimal)
 
-unfoldable pub read_power : List ℕ → Power
-read_power text = record { right = ends_right text; small = is_small text; written = capped (written_of text) }
+-- the power of ten, where the text ends right
+unfoldable pub read_power : List ℕ → Result Power DecimalError
+read_power text = cond (ends_right text) (Ok (record { negative = is_small text; digits = capped (written_of text) })) (Err DecimalError.NotADecimal)
 
 -- `number_of` over what was read
-unfoldable pub numbered_of : Mantissa → Power → Decimal
+unfoldable pub numbered_of : Mantissa → Power → Result Float DecimalError
 numbered_of m p =
     cond (nat_lt m.digits limit)
-    (cond (nat_lt p.written limit)
-    (cond p.small (scaled_of m.negative m.digits 0 (m.places + p.written)) (scaled_of m.negative m.digits p.written m.places))
-    (Decimal.Fault 3))
-    (Decimal.Fault 2)
+    (cond (nat_lt p.digits limit)
+    (cond p.negative (scaled_of m.negative m.digits 0 (m.places + p.digits)) (scaled_of m.negative m.digits p.digits m.places))
+    (Err DecimalError.PowerOutOfRange))
+    (Err DecimalError.TooManyDigits)
+
+-- 10 ^ k, where it is a float without rounding
+abbrev pub power_of : ℕ → Result Float DecimalError
+power_of k = cond (nat_le k 22) (Ok (tens k)) (Err DecimalError.PowerOutOfRange)

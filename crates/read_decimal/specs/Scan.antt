@@ -1,5 +1,5 @@
 -- Places in a list of bytes, and the number that digits say.
-use Rattle.std.specs.Prelude.{ℕ, suc, ◌+◌, ◌-◌, ◌*◌, Bool, cond, ◌&&◌, ◌||◌, List, [], ◌∷◌, length, drop, ◌==◌, nat_le, nat_lt, slice_index}
+use Rattle.std.specs.Prelude.{ℕ, ◌+◌, ◌-◌, ◌*◌, Bool, cond, ◌&&◌, ◌||◌, List, [], ◌∷◌, length, drop, take_while, ◌==◌, nat_le, nat_lt, min, slice_index}
 
 -- the byte b stands at a place
 unfoldable pub is : ℕ → List ℕ → ℕ → Bool
@@ -13,14 +13,9 @@ after a b text at = cond (is a text at || is b text at) (at + 1) at
 abbrev pub is_digit : ℕ → Bool
 is_digit b = nat_le 48 b && nat_le b 57
 
--- how many digits a list begins with
-unfoldable pub run : List ℕ → ℕ
-run [] = 0
-run (b ∷ w) = let n = run w in cond (is_digit b) (suc n) 0
-
 -- the place where the digits end that begin at a place
 unfoldable pub digits_end : List ℕ → ℕ → ℕ
-digits_end text at = at + run (drop at text)
+digits_end text at = at + length (take_while is_digit (drop at text))
 
 -- digits as a number, the most significant first, after those that make n
 unfoldable pub value_from : ℕ → List ℕ → ℕ
@@ -34,5 +29,5 @@ value w = value_from 0 w
 abbrev pub limit : ℕ
 limit = 1000000000000000
 
-unfoldable pub capped : ℕ → ℕ
-capped n = cond (nat_lt n limit) n limit
+abbrev pub capped : ℕ → ℕ
+capped n = min n limit

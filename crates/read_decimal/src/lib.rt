@@ -8,46 +8,60 @@ pub mod scale;
 pub mod scan;
 
 ghost use Rattle.std.specs.Prelude.{◌≡◌, ◌^◌, ◌<◌};
-ghost use Rattle.read_decimal.specs.Decimal.{decimal_of};
+ghost use Rattle.read_decimal.specs.Decimal.{decimal_of, error_number};
 ghost use Rattle.read_decimal.specs.Parts.{numbered_of};
 
 use crate::parts::{Mantissa, Power, read_mantissa, read_power};
 use crate::scale::scaled;
+use crate::scan::LIMIT;
 
-// The number; or the fault 1 no decimal, 2 more than 15 significant digits, 3 a power of ten out of
-// range.
-#[derive(Clone, Copy)]
-pub enum Decimal {
-    Value(f64),
-    Fault(u64),
+// Why a text is refused.
+#[derive(Clone, Copy, Debug, PartialEq, Eq)]
+pub enum DecimalError {
+    NotADecimal,
+    TooManyDigits,
+    PowerOutOfRange,
+}
+
+impl DecimalError {
+    // 1, 2 or 3.
+    pub fn number(self) -> u64
+        ensures { result ≡ error_number self }
+    {
+        match self {
+            DecimalError::NotADecimal => 1,
+            DecimalError::TooManyDigits => 2,
+            DecimalError::PowerOutOfRange => 3,
+        }
+    }
 }
 
 // The whole of `text` is the number.
-pub fn read_decimal(text: &[u8]) -> Decimal
+#[tactic(auto, using(crate::proofs::AnswerLaws::uncapped), unfolding(crate::specs::Decimal::decimal_of, crate::specs::Decimal::is_decimal, crate::specs::Parts::read_mantissa, crate::specs::Parts::read_power))]
+pub fn read_decimal(text: &[u8]) -> Result<f64, DecimalError>
     ensures { result ≡ decimal_of text.now }
 {
-    let m = read_mantissa(text);
-    let p = read_power(text, m.end);
-    if m.some {
-        if p.right {
-            return numbered(m, p);
-        }
-    }
-    Decimal::Fault(1)
+    let mantissa = read_mantissa(text)?;
+    let power = read_power(text, mantissa.end)?;
+    numbered(mantissa, power)
 }
 
-fn numbered(m: Mantissa, p: Power) -> Decimal
+// More than 15 digits come before a power out of range.
+#[tactic(auto, unfolding(crate::specs::Parts::numbered_of))]
+fn numbered(m: Mantissa, p: Power) -> Result<f64, DecimalError>
     requires { m.places < 2 ^ 63 }
     ensures { result ≡ numbered_of m p }
 {
-    if m.digits >= 1000000000000000 {
-        return Decimal::Fault(2);
+    if m.digits >= LIMIT {
+        return Err(DecimalError::TooManyDigits);
     }
-    if p.written >= 1000000000000000 {
-        return Decimal::Fault(3);
+    if p.digits >= LIMIT {
+        return Err(DecimalError::PowerOutOfRange);
     }
-    if p.small {
-        return scaled(m.negative, m.digits, 0, (m.places as u64) + p.written);
+    let places = m.places as u64;
+    if p.negative {
+        scaled(m.negative, m.digits, 0, places + p.digits)
+    } else {
+        scaled(m.negative, m.digits, p.digits, places)
     }
-    scaled(m.negative, m.digits, p.written, m.places as u64)
 }

@@ -1,89 +1,66 @@
 // The two parts of a decimal: its digits, and the power of ten that may follow.
-ghost use Rattle.std.specs.Prelude.{◌≡◌, ◌≤◌, ◌&&◌, ◌||◌, length, ◌==◌, nat_lt};
+ghost use Rattle.std.specs.Prelude.{◌≡◌, ◌≤◌, IfOk, length};
 ghost use Rattle.read_decimal.specs.Decimal.{fraction_end};
 ghost use Rattle.read_decimal.specs.Parts.{read_mantissa, read_power};
 
+use crate::DecimalError;
 use crate::scan::{digits_end, number, past, stands};
 
 // All digits as one number, at most 10^15; how many stand after the point; where they end.
 #[derive(Clone, Copy)]
 pub struct Mantissa {
     pub negative: bool,
-    pub some: bool,
     pub digits: u64,
     pub places: usize,
     pub end: usize,
 }
 
-// The power of ten as it is written, at most 10^15, and whether the text ends right.
+// The power of ten as it is written, at most 10^15.
 #[derive(Clone, Copy)]
 pub struct Power {
-    pub right: bool,
-    pub small: bool,
-    pub written: u64,
+    pub negative: bool,
+    pub digits: u64,
 }
 
-// Whether one of two ranges holds anything.
-fn either(a: usize, b: usize, c: usize, d: usize) -> bool
-    ensures { result ≡ nat_lt a b || nat_lt c d }
-{
-    if a < b {
-        return true;
-    }
-    c < d
-}
-
-pub fn read_mantissa(text: &[u8]) -> Mantissa
+// The digits that `text` begins with, where there is one.
+#[tactic(auto, using(crate::proofs::NumberLaws::capped_more), unfolding(crate::specs::Parts::read_mantissa, crate::specs::Decimal::has_digit, crate::specs::Decimal::is_negative, crate::specs::Decimal::mantissa_of, crate::specs::Decimal::places_of, crate::specs::Decimal::fraction_end, crate::specs::Decimal::fraction_at, crate::specs::Decimal::whole_end, crate::specs::Decimal::whole_at))]
+pub fn read_mantissa(text: &[u8]) -> Result<Mantissa, DecimalError>
     ensures value { result ≡ read_mantissa text.now }
-    ensures places_in_bounds { (result.places ≤ length text.now) × (result.end ≤ length text.now) }
+    ensures places_in_bounds { IfOk result (λ m. (m.places ≤ length text.now) × (m.end ≤ length text.now)) }
 {
-    let negative = stands(text, 0, 45);
-    let whole = past(text, 0, 43, 45);
+    let whole = past(text, 0, b'+', b'-');
     let point = digits_end(text, whole);
-    let fraction = past(text, point, 46, 46);
+    let fraction = past(text, point, b'.', b'.');
     let end = digits_end(text, fraction);
-    let high = number(&text[whole..point], 0);
-    let digits = number(&text[fraction..end], high);
-    let some = either(whole, point, fraction, end);
-    Mantissa {
-        negative,
-        some,
-        digits,
-        places: end - fraction,
-        end,
+    if whole < point || fraction < end {
+        let high = number(&text[whole..point], 0);
+        let digits = number(&text[fraction..end], high);
+        Ok(Mantissa {
+            negative: stands(text, 0, b'-'),
+            digits,
+            places: end - fraction,
+            end,
+        })
+    } else {
+        Err(DecimalError::NotADecimal)
     }
 }
 
-// Whether the text, of this length, ends with the digits or with the digits of a power of ten.
-fn ends_right(len: usize, end: usize, mark: usize, digits: usize, last: usize) -> bool
-    ensures { result ≡ (end == len) || (nat_lt end mark && nat_lt digits last && last == len) }
-{
-    if end == len {
-        return true;
-    }
-    if end < mark {
-        if digits < last {
-            return last == len;
-        }
-    }
-    false
-}
-
-// What follows the digits, from `end` on.
-pub fn read_power(text: &[u8], end: usize) -> Power
+// What follows the digits, from `end` on: nothing, which is the power 0, or a power that has a digit.
+#[tactic(auto, unfolding(crate::specs::Parts::read_power, crate::specs::Decimal::ends_right, crate::specs::Decimal::is_small, crate::specs::Decimal::written_of, crate::specs::Decimal::power_end, crate::specs::Decimal::power_digits_at, crate::specs::Decimal::power_at))]
+pub fn read_power(text: &[u8], end: usize) -> Result<Power, DecimalError>
     requires end_value { end ≡ fraction_end text.now }
     requires end_in_bounds { end ≤ length text.now }
     ensures { result ≡ read_power text.now }
 {
-    let mark = past(text, end, 69, 101);
-    let small = stands(text, mark, 45);
-    let digits = past(text, mark, 43, 45);
-    let last = digits_end(text, digits);
-    let written = number(&text[digits..last], 0);
-    let right = ends_right(text.len(), end, mark, digits, last);
-    Power {
-        right,
-        small,
-        written,
+    let mark = past(text, end, b'E', b'e');
+    let start = past(text, mark, b'+', b'-');
+    let last = digits_end(text, start);
+    if end == text.len() || (end < mark && start < last && last == text.len()) {
+        let negative = stands(text, mark, b'-');
+        let digits = number(&text[start..last], 0);
+        Ok(Power { negative, digits })
+    } else {
+        Err(DecimalError::NotADecimal)
     }
 }

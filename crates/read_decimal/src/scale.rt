@@ -1,8 +1,9 @@
 // A whole number times or over a power of ten, rounded once.
-ghost use Rattle.std.specs.Prelude.{◌≡◌, ◌≤◌};
-ghost use Rattle.read_decimal.specs.Decimal.{signed, tens, scaled_of};
+ghost use Rattle.std.specs.Prelude.{◌≡◌};
+ghost use Rattle.read_decimal.specs.Decimal.{signed, scaled_of};
+ghost use Rattle.read_decimal.specs.Parts.{power_of};
 
-use crate::Decimal;
+use crate::DecimalError;
 
 // 10^0 to 10^22, each a float without rounding.
 const TENS: [f64; 23] = [
@@ -10,13 +11,16 @@ const TENS: [f64; 23] = [
     1e17, 1e18, 1e19, 1e20, 1e21, 1e22,
 ];
 
-fn power_of_ten(k: u64) -> f64
-    requires { k ≤ 22 }
-    ensures { result ≡ tens k }
+#[tactic(auto, using(crate::proofs::Tens::table_right))]
+fn power_of_ten(k: u64) -> Result<f64, DecimalError>
+    ensures { result ≡ power_of k }
 {
-    math::at(&TENS, k as usize)
+    TENS.get(k as usize)
+        .copied()
+        .ok_or(DecimalError::PowerOutOfRange)
 }
 
+#[tactic(auto, unfolding(crate::specs::Decimal::signed))]
 fn with_sign(negative: bool, m: u64) -> f64
     ensures { result ≡ signed negative m }
 {
@@ -25,20 +29,14 @@ fn with_sign(negative: bool, m: u64) -> f64
 }
 
 // m * 10^up / 10^down.
-pub fn scaled(negative: bool, m: u64, up: u64, down: u64) -> Decimal
+#[tactic(auto, unfolding(crate::specs::Decimal::scaled_of))]
+pub fn scaled(negative: bool, m: u64, up: u64, down: u64) -> Result<f64, DecimalError>
     ensures { result ≡ scaled_of negative m up down }
 {
     let x = with_sign(negative, m);
     if down <= up {
-        let k = up - down;
-        if k <= 22 {
-            return Decimal::Value(x * power_of_ten(k));
-        }
-        return Decimal::Fault(3);
+        Ok(x * power_of_ten(up - down)?)
+    } else {
+        Ok(x / power_of_ten(down - up)?)
     }
-    let k = down - up;
-    if k <= 22 {
-        return Decimal::Value(x / power_of_ten(k));
-    }
-    Decimal::Fault(3)
 }

@@ -1,3 +1,1 @@
-pub mod Laws
-pub mod RowLaws
-pub mod TableLaws
+pub mod LinesLaws

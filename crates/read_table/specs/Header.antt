@@ -1,23 +1,41 @@
 -- A header names the columns; a name that is a known word must stand in its column.
-use Rattle.std.specs.Prelude.{ℕ, ◌+◌, ◌-◌, ◌/◌, Bool, ◌&&◌, ◌||◌, cond, List, eqb}
+use Rattle.std.specs.Prelude.{ℕ, ◌-◌, Bool, true, false, ◌&&◌, List, [], ◌∷◌, codes, find, Option, Some, None}
+use Rattle.std.specs.List.{list_any}
+use Rattle.std.specs.Str.{str_eq_ignore_ascii_case}
 use Rattle.math.specs.Parts.{part}
-use Rattle.text_buffer.specs.Text.{bytes}
-use Rattle.text_lines.specs.Lines.{number_of}
-use Rattle.read_table.specs.Classes.{in_letters, scan_of}
+use Rattle.read_table.specs.Classes.{scan_of}
+use Rattle.read_table.specs.declared.classes.Stop.{Stop}
+use Rattle.read_table.specs.declared.header.Column.{Column}
 
--- five words each for the dose, the grams and the canister: those of a tinting machine, and of R's Orange, Loblolly and DNase
-abbrev pub column_words : List ℕ
-column_words =
-    bytes "\ndose\ndoses\nsteps\nage\nconc\ngrams\nweight\ndensity\nheight\ncircumference\ncanister\ntree\nseed\nrun\ngroup\n"
+-- five words each: those of a tinting machine, and of R's Orange, Loblolly and DNase
+abbrev pub words_of : Column → List (List ℕ)
+words_of Column.Dose = codes "dose" ∷ codes "doses" ∷ codes "steps" ∷ codes "age" ∷ codes "conc" ∷ []
+words_of Column.Grams = codes "grams" ∷ codes "weight" ∷ codes "density" ∷ codes "height" ∷ codes "circumference" ∷ []
+words_of Column.Canister = codes "canister" ∷ codes "tree" ∷ codes "seed" ∷ codes "run" ∷ codes "group" ∷ []
 
--- the column, 1 to 3, that the letters from a place on name; 0 where they are no known word
-unfoldable pub column_of : List ℕ → ℕ → ℕ
+-- capitals and small letters alike
+unfoldable pub is_word_of : List ℕ → Column → Bool
+is_word_of word column = list_any (λ w. str_eq_ignore_ascii_case w word) (words_of column)
+
+-- the column that the letters from a place on name; none where they are no known word
+unfoldable pub column_of : List ℕ → ℕ → Option Column
 column_of line start =
-    let n = number_of column_words (part start (scan_of in_letters line start - start) line) in
-    cond (eqb n 0) 0 ((n - 1) / 5 + 1)
+    find (is_word_of (part start (scan_of Stop.EndOfLetters line start - start) line)) (Column.Dose ∷ Column.Grams ∷ Column.Canister ∷ [])
 
-unfoldable pub fits_column : List ℕ → ℕ → ℕ → Bool
-fits_column line start column = eqb (column_of line start) 0 || eqb (column_of line start) column
+abbrev pub same_column : Column → Column → Bool
+same_column Column.Dose Column.Dose = true
+same_column Column.Grams Column.Grams = true
+same_column Column.Canister Column.Canister = true
+same_column _ _ = false
+
+-- a field names a column, or none
+abbrev pub fits_named : Option Column → Column → Bool
+fits_named None column = true
+fits_named (Some named) column = same_column named column
+
+unfoldable pub fits_column : List ℕ → ℕ → Column → Bool
+fits_column line start column = fits_named (column_of line start) column
 
 unfoldable pub in_order : List ℕ → ℕ → ℕ → ℕ → Bool
-in_order line dose grams canister = fits_column line dose 1 && (fits_column line grams 2 && fits_column line canister 3)
+in_order line dose grams canister =
+    fits_column line dose Column.Dose && (fits_column line grams Column.Grams && fits_column line canister Column.Canister)

@@ -1,4 +1,5 @@
 pub mod Classes
+pub mod Faults
 pub mod Header
 pub mod Row
 pub mod Table

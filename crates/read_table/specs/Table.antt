@@ -1,147 +1,145 @@
 -- A table of readings, line by line. Lines end with a newline; a line that is blank, or whose first sign is `#`, is skipped. The first other line may be a header. A byte order mark before
 -- the first line is passed over.
 -- The definition says what the lists hold in every case: on a fault they hold what was entered before it, and nothing further is written.
-use Rattle.std.specs.Prelude.{ℕ, zero, suc, ◌+◌, ◌-◌, ◌*◌, Bool, true, false, not, ◌&&◌, cond, List, [], ◌∷◌, ltb, leb, eqb, length, take, get_or, set, Float}
-use Rattle.math.specs.Basic as Basic
-use Rattle.math.specs.Loops.{until}
-use Rattle.math.specs.Lists.{same_bytes}
+use Rattle.std.specs.Prelude.{ℕ, zero, suc, ◌+◌, ◌-◌, ◌≤◌, Bool, false, not, ◌&&◌, ◌||◌, cond, List, [], ◌∷◌, ◌==◌, nat_le, nat_lt, length, take, slice_set, position, Float, Option, Some, None, Result, Ok, Err}
+use Rattle.std.specs.Str.{bytes_eq}
 use Rattle.math.specs.Parts.{part}
-use Rattle.read_table.specs.Classes.{to_newline, scan_of}
+use Rattle.text_buffer.specs.declared.Span.{Span}
+use Rattle.read_table.specs.Classes.{scan_of}
 use Rattle.read_table.specs.Row.{row_of}
+use Rattle.read_table.specs.declared.classes.Stop.{Stop}
+use Rattle.read_table.specs.declared.fault.TableFault.{TableFault}
+use Rattle.read_table.specs.declared.row.Reading.{Reading}
 use Rattle.read_table.specs.declared.row.Row.{Row}
-use Rattle.read_table.specs.declared.step.Progress.{Progress}
-use Rattle.read_table.specs.declared.step.Move.{Move}
 use Rattle.read_table.specs.declared.Table.{Table}
+use Rattle.read_table.specs.declared.step.Progress.{Progress}
+use Rattle.read_table.specs.declared.TableError.{TableError}
 
--- ---- the names that were seen
+-- whether there is a fault, and what is left
+abbrev pub Step : Type 0 → Type 0
+Step A = Result (Unit {0}) TableFault × A
 
--- the bytes from a to e are those from start to stop
-unfoldable pub same_name : List ℕ → ℕ → ℕ → ℕ → ℕ → Bool
-same_name text start stop a e = leb a e && (leb e (length text) && same_bytes (part a (e - a) text) (part start (stop - start) text))
+-- ---- a reading is entered
 
--- the first of n names, with `left` of them left from the j-th on, that is the one from start to stop; n where none is
-unfoldable pub find_from : List ℕ → List ℕ → ℕ → ℕ → ℕ → ℕ → ℕ → ℕ
-find_from text names n start stop left j =
-    until {A = ℕ} {B = ℕ} (λ i s. same_name text start stop (get_or names (2 * i) 0) (get_or names (2 * i + 1) 0)) (λ i s. i) (λ i s. s) (λ s. n) left j 0
-
-abbrev pub find_of : List ℕ → List ℕ → ℕ → ℕ → ℕ → ℕ
-find_of text names n start stop = find_from text names n start stop n 0
-
--- ---- what a line changes
-
--- nothing is entered
-abbrev pub still_of : Progress → Move
-still_of q =
-    record { next = q; take = false; fresh = false; dose = Basic.zero; grams = Basic.zero; group = 0; name = 0; second = 0; start = 0; stop = 0 }
-
--- a line that is more than blank and enters nothing
-abbrev pub marked_of : Progress → ℕ → Move
-marked_of q fault =
-    still_of (record { at = q.at; line = q.line; count = q.count; canisters = q.canisters; started = true; fault = fault })
-
--- a reading of canister `group`; the name goes to 2 * group and the place after it where it is `fresh`
-abbrev pub taken_of : Progress → Row → ℕ → ℕ → Bool → Move
-taken_of q row group canisters fresh =
-    record {
-      next = record { at = q.at; line = q.line; count = q.count + 1; canisters = canisters; started = true; fault = 0 };
-      take = true;
-      fresh = fresh;
-      dose = row.dose;
-      grams = row.grams;
-      group = group;
-      name = 2 * group;
-      second = 2 * group + 1;
-      start = row.start;
-      stop = row.stop;
-    }
-
--- 8: there is no room for a new name
-unfoldable pub entered_of : List ℕ → Progress → Row → List ℕ → Move
-entered_of text q row names =
-    cond (ltb (find_of text names q.canisters row.start row.stop) q.canisters)
-    (taken_of q row (find_of text names q.canisters row.start row.stop) q.canisters false)
-    (cond (leb (2 * q.canisters + 2) (length names)) (taken_of q row q.canisters (q.canisters + 1) true) (marked_of q 8))
-
--- a header is skipped where no line before it was more than blank, and 11 where it names the columns in another order; 7: there is no room for a reading
-unfoldable pub settled_of : List ℕ → Progress → Row → ℕ → List ℕ → Move
-settled_of text q row room names =
-    cond row.blank (still_of q)
-    (cond (row.letters && not q.started) (marked_of q (cond row.ordered 0 11))
-    (cond (eqb row.fault 0) (cond (ltb q.count room) (entered_of text q row names) (marked_of q 7)) (marked_of q row.fault)))
-
--- the line from p's place to a newline; the next begins after it
-unfoldable pub past_of : List ℕ → Progress → Progress
-past_of text p =
-    record {
-      at = scan_of to_newline text p.at + 1;
-      line = p.line + 1;
-      count = p.count;
-      canisters = p.canisters;
-      started = p.started;
-      fault = 0;
-    }
-
-unfoldable pub move_of : List ℕ → Progress → ℕ → List ℕ → Move
-move_of text p room names = settled_of text (past_of text p) (row_of (take (scan_of to_newline text p.at) text) p.at) room names
-
--- ---- the table
-
-pub record State : Type 0 where
-  pub progress : Progress
+-- what was read so far, and the lists, at whose front it stands
+pub record Lists : Type 0 where
+  pub table : Table
   pub doses : List Float
   pub grams : List Float
   pub groups : List ℕ
-  pub names : List ℕ
+  pub names : List Span
 
-abbrev pub state : Progress → List Float → List Float → List ℕ → List ℕ → State
-state p doses grams groups names = record { progress = p; doses = doses; grams = grams; groups = groups; names = names }
+abbrev pub lists : Table → List Float → List Float → List ℕ → List Span → Lists
+lists table doses grams groups names = record { table = table; doses = doses; grams = grams; groups = groups; names = names }
+
+-- what is counted lies in the lists
+pub record InBounds (l : Lists) : Type 0 where
+  pub in_doses : l.table.count ≤ length l.doses
+  pub in_grams : l.table.count ≤ length l.grams
+  pub in_groups : l.table.count ≤ length l.groups
+  pub in_names : l.table.canisters ≤ length l.names
+
+-- the bytes of a canister that was seen are those of a name
+unfoldable pub same_name : List ℕ → Span → Span → Bool
+same_name text name seen =
+    nat_le seen.start seen.stop && nat_le seen.stop (length text)
+    && bytes_eq (part seen.start (seen.stop - seen.start) text) (part name.start (name.stop - name.start) text)
+
+-- the first canister that has a name
+unfoldable pub find_of : List ℕ → List Span → Span → Option ℕ
+find_of text seen name = position (same_name text name) seen
+
+-- the canister of a name: one that was seen, or a new one, whose name is put down where there is room
+abbrev pub group_from : Option ℕ → Span → Table → List Span → Result ℕ TableFault × Table × List Span
+group_from (Some group) name t names = (Ok group, t, names)
+group_from None name t names =
+    cond (nat_lt t.canisters (length names))
+    (Ok t.canisters, record { lines = t.lines; count = t.count; canisters = t.canisters + 1 }, slice_set names t.canisters name)
+    (Err TableFault.TooManyCanisters, t, names)
+
+unfoldable pub group_of : List ℕ → Span → Table → List Span → Result ℕ TableFault × Table × List Span
+group_of text name t names = group_from (find_of text (take t.canisters names) name) name t names
+
+abbrev pub entered_from : Reading → Lists → Result ℕ TableFault × Table × List Span → Step Lists
+entered_from reading l (Err e, t, names) = (Err e, lists t l.doses l.grams l.groups names)
+entered_from reading l (Ok group, t, names) = (
+  Ok tt,
+  lists (record { lines = t.lines; count = t.count + 1; canisters = t.canisters })
+      (slice_set l.doses t.count reading.dose) (slice_set l.grams t.count reading.grams) (slice_set l.groups t.count group) names,
+)
 
 -- the shortest of the three lists says how many readings are taken
-unfoldable pub room_of : ℕ → ℕ → ℕ → ℕ
-room_of a b c = cond (leb a b) (cond (leb a c) a c) (cond (leb b c) b c)
+unfoldable pub enter_of : List ℕ → Reading → Lists → Step Lists
+enter_of text reading l =
+    cond (nat_lt l.table.count (length l.doses) && nat_lt l.table.count (length l.grams) && nat_lt l.table.count (length l.groups))
+    (entered_from reading l (group_of text reading.name l.table l.names))
+    (Err TableFault.TooManyReadings, l)
 
-abbrev pub next_move : List ℕ → State → Move
-next_move text s = move_of text s.progress (room_of (length s.doses) (length s.grams) (length s.groups)) s.names
+-- ---- line after line
 
--- a value put at a place where `on` holds
-abbrev pub put_at : {A : Type 0} → Bool → ℕ → A → List A → List A
-put_at on i x l = cond on (set l i x) l
+-- the place of the next line, whether a line was more than blank, and what was read
+pub record State : Type 0 where
+  pub at : ℕ
+  pub started : Bool
+  pub read : Lists
 
--- one line
-unfoldable pub step_of : List ℕ → State → State
+abbrev pub state : Progress → List Float → List Float → List ℕ → List Span → State
+state p doses grams groups names = record { at = p.at; started = p.started; read = lists p.read doses grams groups names }
+
+abbrev pub some_reading : Result Reading TableFault → Result (Option Reading) TableFault
+some_reading (Ok reading) = Ok (Some reading)
+some_reading (Err e) = Err e
+
+-- what a line says: a header is skipped where no line before it was more than blank, and refused where it names the columns in another order
+unfoldable pub settled_of : Row → Bool → Result (Option Reading) TableFault
+settled_of row started =
+    cond row.blank (Ok None)
+    (cond (row.letters && not started) (cond row.ordered (Ok None) (Err TableFault.HeaderOutOfOrder)) (some_reading row.reading))
+
+abbrev pub stepped : List ℕ → State → Result (Option Reading) TableFault → Step State
+stepped text s (Err e) = (Err e, s)
+stepped text s (Ok None) = (Ok tt, s)
+stepped text s (Ok (Some reading)) =
+    let entered = enter_of text reading s.read in
+    (entered.0, record { at = s.at; started = s.started; read = entered.1 })
+
+-- one line more is read
+abbrev pub with_line : Lists → Lists
+with_line l =
+    lists (record { lines = l.table.lines + 1; count = l.table.count; canisters = l.table.canisters }) l.doses l.grams l.groups l.names
+
+-- the line from s's place to a newline; the next begins after it
+unfoldable pub step_of : List ℕ → State → Step State
 step_of text s =
-    record {
-      progress = (next_move text s).next;
-      doses = put_at (next_move text s).take s.progress.count (next_move text s).dose s.doses;
-      grams = put_at (next_move text s).take s.progress.count (next_move text s).grams s.grams;
-      groups = put_at (next_move text s).take s.progress.count (next_move text s).group s.groups;
-      names =
-          put_at (next_move text s).fresh (next_move text s).second (next_move text s).stop
-          (put_at (next_move text s).fresh (next_move text s).name (next_move text s).start s.names);
-    }
+    let end = scan_of Stop.Newline text s.at in
+    let row = row_of (take end text) s.at in
+    stepped text (record { at = end + 1; started = s.started || not row.blank; read = with_line s.read }) (settled_of row s.started)
 
--- there is text left, and no fault
-unfoldable pub runs : ℕ → Progress → Bool
-runs len p = ltb p.at len && eqb p.fault 0
+abbrev pub then : (State → Step State) → Step State → Step State
+then on (Err e, s) = (Err e, s)
+then on (Ok u, s) = on s
 
--- line after line, at most n of them; a text has no more lines than bytes
-unfoldable pub lines_of : ℕ → List ℕ → State → State
-lines_of zero text s = s
-lines_of (suc n) text s = let r = lines_of n text (step_of text s) in cond (runs (length text) s.progress) r s
+-- line after line, at most n of them, up to a fault; a text has no more lines than bytes
+unfoldable pub lines_of : ℕ → List ℕ → State → Step State
+lines_of zero text s = (Ok tt, s)
+lines_of (suc n) text s =
+    let more = then (lines_of n text) (step_of text s) in cond (nat_lt s.at (length text)) more (Ok tt, s)
 
 -- the place after a byte order mark, EF BB BF
 unfoldable pub after_mark : List ℕ → ℕ
-after_mark text = cond (same_bytes (take 3 text) (239 ∷ 187 ∷ 191 ∷ [])) 3 0
+after_mark text = cond (bytes_eq (take 3 text) (239 ∷ 187 ∷ 191 ∷ [])) 3 0
 
-abbrev pub start_of : List ℕ → Progress
-start_of text = record { at = after_mark text; line = 0; count = 0; canisters = 0; started = false; fault = 0 }
+unfoldable pub table_of : List ℕ → List Float → List Float → List ℕ → List Span → Step State
+table_of text doses grams groups names =
+    lines_of (length text) text
+    (record { at = after_mark text; started = false; read = lists (record { lines = 0; count = 0; canisters = 0 }) doses grams groups names })
 
-unfoldable pub table_of : List ℕ → List Float → List Float → List ℕ → List ℕ → State
-table_of text doses grams groups names = lines_of (length text) text (state (start_of text) doses grams groups names)
+-- A table without readings is refused too. What was read up to a fault has as many lines as the number of the faulty one.
+abbrev pub finish_of : Step State → Result Table TableError
+finish_of (Err e, s) = Err (record { fault = e; read = s.read.table })
+finish_of (Ok u, s) = cond (s.read.table.count == 0) (Err (record { fault = TableFault.NoReadings; read = s.read.table })) (Ok s.read.table)
 
--- 9: no readings at all. `line` is the number of lines read: of a fault in a line that line, of 9 the number of lines
-unfoldable pub last_fault : ℕ → ℕ → ℕ
-last_fault fault count = cond (eqb fault 0) (cond (eqb count 0) 9 0) fault
-
-abbrev pub finish_of : Progress → Table
-finish_of p = record { fault = last_fault p.fault p.count; line = p.line; count = p.count; canisters = p.canisters }
+-- what was read, whatever came of it
+abbrev pub read_in : Result Table TableError → Table
+read_in (Ok t) = t
+read_in (Err e) = e.read

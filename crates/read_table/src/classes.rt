@@ -1,134 +1,86 @@
 // The bytes that a table's reader looks for, and the place of the next one.
-ghost use Rattle.std.specs.Prelude.{◌≡◌, ◌≤◌, length};
-ghost use Rattle.read_decimal.specs.Scan.{is_digit};
-ghost use Rattle.read_table.specs.Classes.{is_space, is_separator, is_letter, is_name_byte, stops_at, meets, scan_of};
+ghost use Rattle.std.specs.Prelude.{◌≡◌, ◌-◌, ◌≤◌, ◌<◌, not, length, drop, take_while};
+ghost use Rattle.std.specs.Bool.{OnTrue};
+ghost use Rattle.read_table.specs.Classes.{is_space, is_separator, is_name_byte, stops_at, meets, scan_of};
 
-pub fn is_space(b: u8) -> bool
+fn is_space(b: u8) -> bool
     ensures { result ≡ is_space b }
 {
-    if b == 32 {
-        return true;
-    }
-    b == 13
+    b == b' ' || b == b'\r'
 }
 
-pub fn is_separator(b: u8) -> bool
+fn is_separator(b: u8) -> bool
     ensures { result ≡ is_separator b }
 {
-    if b == 44 {
-        return true;
-    }
-    if b == 59 {
-        return true;
-    }
-    b == 9
+    b == b',' || b == b';' || b == b'\t'
 }
 
-pub fn is_letter(b: u8) -> bool
-    ensures { result ≡ is_letter b }
-{
-    if b < 65 {
-        return false;
-    }
-    if b < 91 {
-        return true;
-    }
-    if b < 97 {
-        return false;
-    }
-    b < 123
-}
-
-fn is_digit(b: u8) -> bool
-    ensures { result ≡ is_digit b }
-{
-    if b < 48 {
-        return false;
-    }
-    b <= 57
-}
-
-pub fn is_name_byte(b: u8) -> bool
+fn is_name_byte(b: u8) -> bool
     ensures { result ≡ is_name_byte b }
 {
-    if is_letter(b) {
-        return true;
-    }
-    if is_digit(b) {
-        return true;
-    }
-    if b == 45 {
-        return true;
-    }
-    if b == 46 {
-        return true;
-    }
-    if b == 95 {
-        return true;
-    }
-    128 <= b
+    b.is_ascii_alphanumeric() || b == b'-' || b == b'.' || b == b'_' || b >= 128
 }
 
-// Whether a byte ends a run of the kind k: 0 spaces, 1 a word, 2 up to a quote, 3 up to a newline,
-// 4 up to a `#`, 5 up to a separator, 6 up to a letter, 7 a name, 8 letters, 9 up to a comma.
-fn stops(k: u64, b: u8) -> bool
-    ensures { result ≡ stops_at k b }
-{
-    if k == 0 {
-        return !is_space(b);
-    }
-    if k == 1 {
-        if is_space(b) {
-            return true;
+// What is looked for: a byte of a kind, or the end of a run, which is the first byte that is none of it.
+#[derive(Clone, Copy, Debug, PartialEq, Eq)]
+pub enum Stop {
+    Quote,
+    Newline,
+    Comment,
+    Comma,
+    Separator,
+    Letter,
+    EndOfSpaces,
+    EndOfWord,
+    EndOfName,
+    EndOfLetters,
+}
+
+impl Stop {
+    fn stops_at(self, b: u8) -> bool
+        ensures { result ≡ stops_at self b }
+    {
+        match self {
+            Stop::Quote => b == b'"',
+            Stop::Newline => b == b'\n',
+            Stop::Comment => b == b'#',
+            Stop::Comma => b == b',',
+            Stop::Separator => is_separator(b),
+            Stop::Letter => b.is_ascii_alphabetic(),
+            Stop::EndOfSpaces => !is_space(b),
+            Stop::EndOfWord => is_space(b) || is_separator(b),
+            Stop::EndOfName => !is_name_byte(b),
+            Stop::EndOfLetters => !b.is_ascii_alphabetic(),
         }
-        return is_separator(b);
     }
-    if k == 2 {
-        return b == 34;
-    }
-    if k == 3 {
-        return b == 10;
-    }
-    if k == 4 {
-        return b == b'#';
-    }
-    if k == 5 {
-        return is_separator(b);
-    }
-    if k == 6 {
-        return is_letter(b);
-    }
-    if k == 7 {
-        return !is_name_byte(b);
-    }
-    if k == 8 {
-        return !is_letter(b);
-    }
-    b == b','
 }
 
-// Whether the byte at `at` is one that ends such a run; past the end there is none.
-pub fn met(text: &[u8], at: usize, k: u64) -> bool
-    ensures { result ≡ meets k text.now at }
+// Whether such a byte stands at `at`; past the end there is none.
+#[tactic(auto, unfolding(crate::specs::Classes::meets))]
+pub fn met(text: &[u8], at: usize, stop: Stop) -> bool
+    ensures value { result ≡ meets stop text.now at }
+    ensures in_bounds { OnTrue result (at < length text.now) }
 {
-    if at < text.len() {
-        return stops(k, text[at]);
-    }
-    false
+    at < text.len() && stop.stops_at(text[at])
 }
 
-// The first place from `at` on whose byte ends such a run, or the end.
-pub fn scan(text: &[u8], at: usize, k: u64) -> usize
+// How many bytes come from `at` on before the first such one.
+fn bytes_before(text: &[u8], at: usize, stop: Stop) -> usize
+    ensures value { result ≡ length (take_while (λ b. not (stops_at stop b)) (drop at text.now)) }
+    ensures upper_bound { result ≤ length text.now - at }
+{
+    text.iter()
+        .skip(at)
+        .take_while(|b| !stop.stops_at(**b))
+        .count()
+}
+
+// The first place from `at` on where such a byte stands, or the end.
+#[tactic(auto, unfolding(crate::specs::Classes::scan_of))]
+pub fn scan(text: &[u8], at: usize, stop: Stop) -> usize
     requires { at ≤ length text.now }
-    ensures value { result ≡ scan_of k text.now at }
+    ensures value { result ≡ scan_of stop text.now at }
     ensures lower_bound { (at ≤ result) × (result ≤ length text.now) }
 {
-    let mut i = at;
-    while i < text.len() {
-        if stops(k, text[i]) {
-            return i;
-        }
-        i += 1;
-    }
-    i
+    at + bytes_before(text, at, stop)
 }

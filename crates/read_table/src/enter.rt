@@ -1,55 +1,83 @@
-// The canisters' names that were seen, and values put into the lists.
-ghost use Rattle.std.specs.Prelude.{◌≡◌, cond, ◌≤◌, ◌*◌, ◌+◌, length, set};
-ghost use Rattle.read_table.specs.Table.{same_name, find_of};
+// A reading, entered into the lists.
+ghost use Rattle.std.specs.Prelude.{◌≡◌, ◌≤◌, ◌<◌, IfOk, IfSome, length};
+ghost use Rattle.read_table.specs.Table.{same_name, find_of, group_of, enter_of, lists, InBounds};
 
-// Whether the bytes from a to e are those from start to stop.
-fn same_name(text: &[u8], a: u64, e: u64, start: usize, stop: usize) -> bool
-    requires { (start ≤ stop) × (stop ≤ length text.now) }
-    ensures { result ≡ same_name text.now start stop a e }
+use crate::Table;
+use crate::fault::TableFault;
+use crate::row::Reading;
+use text_buffer::Span;
+
+// Whether two names are the same bytes.
+#[tactic(auto, unfolding(crate::specs::Table::same_name))]
+fn same_name(text: &[u8], seen: Span, name: Span) -> bool
+    requires { (name.start ≤ name.stop) × (name.stop ≤ length text.now) }
+    ensures { result ≡ same_name text.now name seen }
 {
-    let from = a as usize;
-    let to = e as usize;
-    if from <= to {
-        if to <= text.len() {
-            return &text[from..to] == &text[start..stop];
-        }
-    }
-    false
+    text.get(seen.start..seen.stop) == Some(&text[name.start..name.stop])
 }
 
-// The first of n names that is the one from start to stop, and n where none is.
-pub fn find(text: &[u8], names: &[u64], n: usize, start: usize, stop: usize) -> usize
-    requires start_le_stop { (start ≤ stop) × (stop ≤ length text.now) }
-    requires n_in_bounds { 2 * n ≤ length names.now }
-    ensures value { result ≡ find_of text.now names.now n start stop }
-    ensures upper_bound { result ≤ n }
+// The canister that was seen under this name.
+#[tactic(auto, unfolding(crate::specs::Table::find_of))]
+fn find(text: &[u8], seen: &[Span], name: Span) -> Option<usize>
+    requires { (name.start ≤ name.stop) × (name.stop ≤ length text.now) }
+    ensures value { result ≡ find_of text.now seen.now name }
+    ensures upper_bound { IfSome result (λ g. g < length seen.now) }
 {
-    let mut j = 0;
-    while j < n {
-        if same_name(text, names[2 * j], names[2 * j + 1], start, stop) {
-            return j;
-        }
-        j += 1;
-    }
-    n
+    seen.iter().position(|other| same_name(text, *other, name))
 }
 
-pub fn put_float(list: &mut [f64], i: usize, x: f64, on: bool)
-    ensures { list.new ≡ cond on (set list.old i x) list.old }
+// The canister of this name: one that was seen, or else a new one.
+#[tactic(auto, unfolding(crate::specs::Table::group_of))]
+fn group_of(
+    text: &[u8],
+    name: Span,
+    read: &mut Table,
+    names: &mut [Span],
+) -> Result<usize, TableFault>
+    requires name { (name.start ≤ name.stop) × (name.stop ≤ length text.now) }
+    requires canisters { read.old.canisters ≤ length names.old }
+    ensures value { (result, read.new, names.new) ≡ group_of text.now name read.old names.old }
+    ensures canisters { read.new.canisters ≤ length names.old }
+    ensures count { (read.new.count ≡ read.old.count) × (read.new.lines ≡ read.old.lines) }
 {
-    if on {
-        if i < list.len() {
-            list[i] = x;
-        }
+    let n = read.canisters;
+    if let Some(group) = find(text, &names[..n], name) {
+        return Ok(group);
     }
+    if n == names.len() {
+        return Err(TableFault::TooManyCanisters);
+    }
+    names[n] = name;
+    read.canisters += 1;
+    Ok(n)
 }
 
-pub fn put_whole(list: &mut [u64], i: usize, x: u64, on: bool)
-    ensures { list.new ≡ cond on (set list.old i x) list.old }
+// One reading more.
+#[tactic(auto, unfolding(crate::specs::Table::enter_of))]
+pub fn enter(
+    text: &[u8],
+    reading: Reading,
+    read: &mut Table,
+    doses: &mut [f64],
+    grams: &mut [f64],
+    groups: &mut [usize],
+    names: &mut [Span],
+) -> Result<(), TableFault>
+    requires name { (reading.name.start ≤ reading.name.stop) × (reading.name.stop ≤ length text.now) }
+    requires in_bounds { InBounds (lists read.old doses.old grams.old groups.old names.old) }
+    ensures value { (result, lists read.new doses.new grams.new groups.new names.new)
+        ≡ enter_of text.now reading (lists read.old doses.old grams.old groups.old names.old) }
+    ensures in_bounds { InBounds (lists read.new doses.new grams.new groups.new names.new) }
+    ensures same_lines { read.new.lines ≡ read.old.lines }
 {
-    if on {
-        if i < list.len() {
-            list[i] = x;
-        }
+    let i = read.count;
+    if i == doses.len() || i == grams.len() || i == groups.len() {
+        return Err(TableFault::TooManyReadings);
     }
+    let group = group_of(text, reading.name, read, names)?;
+    doses[i] = reading.dose;
+    grams[i] = reading.grams;
+    groups[i] = group;
+    read.count += 1;
+    Ok(())
 }

@@ -1,47 +1,65 @@
 // A header: which column each of its names means.
 ghost use Rattle.std.specs.Prelude.{◌≡◌, ◌≤◌, length};
-ghost use Rattle.read_table.specs.Header.{column_of, fits_column, in_order};
+ghost use Rattle.read_table.specs.Header.{is_word_of, column_of, fits_column, in_order};
 
-use crate::classes::scan;
-use text_lines::words::number_of;
+use crate::classes::{Stop, scan};
+use text_lines::same::is_among;
 
-// The column that a field's first letters name: 1 dose, 2 grams, 3 canister; 0 where they are no known word.
-fn column_of(line: &[u8], start: usize) -> u64
+#[derive(Clone, Copy, Debug, PartialEq, Eq)]
+pub enum Column {
+    Dose,
+    Grams,
+    Canister,
+}
+
+const COLUMNS: [Column; 3] = [Column::Dose, Column::Grams, Column::Canister];
+
+impl Column {
+    // Whether the word, in capitals or small letters, is one of the five that stand for the column.
+    #[tactic(auto, unfolding(crate::specs::Header::is_word_of))]
+    fn has(self, word: &[u8]) -> bool
+        ensures { result ≡ is_word_of word.now self }
+    {
+        match self {
+            Column::Dose => is_among(&[b"dose", b"doses", b"steps", b"age", b"conc"], word),
+            Column::Grams => is_among(
+                &[b"grams", b"weight", b"density", b"height", b"circumference"],
+                word,
+            ),
+            Column::Canister => is_among(&[b"canister", b"tree", b"seed", b"run", b"group"], word),
+        }
+    }
+}
+
+// The column that a field's first letters name, where they are a known word.
+#[tactic(auto, unfolding(crate::specs::Header::column_of))]
+fn column_of(line: &[u8], start: usize) -> Option<Column>
     requires { start ≤ length line.now }
     ensures { result ≡ column_of line.now start }
 {
-    let end = scan(line, start, 8);
-    let n = number_of(
-        b"\ndose\ndoses\nsteps\nage\nconc\ngrams\nweight\ndensity\nheight\ncircumference\ncanister\ntree\nseed\nrun\ngroup\n",
-        &line[start..end],
-    );
-    if n == 0 {
-        return 0;
-    }
-    (n - 1) / 5 + 1
+    let letters = &line[start..scan(line, start, Stop::EndOfLetters)];
+    COLUMNS.iter().copied().find(|column| column.has(letters))
 }
 
 // Whether a field names this column, or none.
-fn fits(line: &[u8], start: usize, column: u64) -> bool
+#[tactic(auto, unfolding(crate::specs::Header::fits_column))]
+fn fits(line: &[u8], start: usize, column: Column) -> bool
     requires { start ≤ length line.now }
     ensures { result ≡ fits_column line.now start column }
 {
-    let k = column_of(line, start);
-    if k == 0 {
-        return true;
+    match column_of(line, start) {
+        None => true,
+        Some(named) => named == column,
     }
-    k == column
 }
 
 // Whether no field of a header names another column than its own.
+#[tactic(auto, unfolding(crate::specs::Header::in_order))]
 pub fn in_order(line: &[u8], dose: usize, grams: usize, canister: usize) -> bool
     requires { (dose ≤ length line.now) × (grams ≤ length line.now) × (canister ≤ length line.now) }
     ensures { result ≡ in_order line.now dose grams canister }
 {
-    if fits(line, dose, 1) {
-        if fits(line, grams, 2) {
-            return fits(line, canister, 3);
-        }
-    }
-    false
+    fits(line, dose, Column::Dose)
+        && fits(line, grams, Column::Grams)
+        && fits(line, canister, Column::Canister)
 }

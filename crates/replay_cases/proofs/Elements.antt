@@ -1,73 +1,50 @@
 -- A list's elements, stored one by one: what is stored and what is still to be read make up the list. Assumes nothing.
-use Prim.Native.Nat.{ℕ, suc, ◌+◌, ◌-◌, ◌<◌, ◌≤◌}
-use mathlib.Core.Path.{◌≡◌, refl, sym, ap, ◌∙◌}
-use mathlib.Core.List.{List, [], ◌∷◌, ◌++◌, append_assoc, append-nil}
-use native.Mathlib.Numerals.{add-one}
-use native.Mathlib.Nat.{sub-zero}
-use native.Mathlib.Omega.{arith}
-use lib.ListN.{length, take, drop, set, length-set, take-append-drop}
-use lib.Seq.{take-suc-set, drop-set-lt, drop-drop}
-use Rattle.replay_cases.specs.Lists.{elements, after}
-use Rattle.replay_cases.specs.declared.cursor.Cursor.{Cursor}
+use Rattle.std.proofs.Common.{◌≡◌, refl, sym, ap, ◌∙◌, ℕ, suc, ◌+◌, ◌-◌, ◌<◌, ◌≤◌, List, [], ◌∷◌, ◌++◌, length, take, set, Option, Some, None, option_map, option_and_then, arith, add-one, append_assoc, append-nil, length-set}
+use Rattle.std.proofs.Math.Seq.{take-suc-set, take-length}
+use Rattle.replay_cases.specs.Words.{word_of, after_word, after_words, elements}
 
--- i of len elements are stored; out₀ and c₀ are what was lent and the place before the elements
-pub record Reading {A : Type 0} (value : Cursor → A) (next : Cursor → Cursor) (out₀ : List A) (len : ℕ) (c₀ : Cursor) (out : List A) (c : Cursor) (i : ℕ) : Type 0 where
-  pub below : i ≤ len
-  pub room : len ≤ length out₀
-  pub size : length out ≡ length out₀
-  pub front : take i out ++ elements value next (len - i) c ≡ elements value next len c₀
-  pub rest : drop i out ≡ drop i out₀
-  pub place : after value next (len - i) c ≡ after value next len c₀
+-- i of the list's elements are stored; left₀ is what was left before its first element
+pub record Reading {A : Type 0} (value : List ℕ → Option A) (left₀ : Option (List ℕ)) (len : ℕ) (list : List A) (left : Option (List ℕ)) (i : ℕ) : Type 0 where
+  pub size : length list ≡ len
+  pub front : option_map (λ xs. take i list ++ xs) (elements value (len - i) left) ≡ elements value len left₀
+  pub place : after_words (len - i) left ≡ after_words len left₀
 
-module _ {A : Type 0} (value : Cursor → A) (next : Cursor → Cursor) (out₀ : List A) (len : ℕ) (c₀ : Cursor) where
-  pub reading_starts : len ≤ length out₀ → Reading value next out₀ len c₀ out₀ c₀ 0
-  reading_starts h =
-      record {
-        below = omega arith;
-        room = h;
-        size = refl;
-        front = rw (sub-zero len);
-        rest = refl;
-        place = rw (sub-zero len);
-      }
+module _ {A : Type 0} (value : List ℕ → Option A) (left₀ left : Option (List ℕ)) (len : ℕ) (list : List A) (i : ℕ) (r : Reading value left₀ len list left i) where
+  module _ (h : i < len) where
+    one_less : len - i ≡ suc (len - (i + 1))
+    one_less = omega arith
 
-  module _ (out : List A) (c : Cursor) (i : ℕ) (r : Reading value next out₀ len c₀ out c i) where
-    pub reading_goes_on : i < len → Reading value next out₀ len c₀ (set out i (value c)) (next c) (i + 1)
-    unfolding elements after
-    reading_goes_on h =
-        let k : len - i ≡ suc (len - (i + 1)) = omega arith in
-        let b : i < length out = omega (arith, r.size, r.room) in
-        let f : take (i + 1) (set out i (value c)) ≡ take i out ++ (value c ∷ []) = rw (add-one i) (take-suc-set out i (value c) b) in
-        record {
-          below = omega arith;
-          room = r.room;
-          size = length-set out i (value c) ∙ r.size;
-          front =
-              ap (λ t. t ++ elements value next (len - (i + 1)) (next c)) f
-              ∙ append_assoc (take i out) (value c ∷ []) (elements value next (len - (i + 1)) (next c))
-              ∙ (rw k at r.front);
-          rest =
-              drop-set-lt (i + 1) out i (value c) (omega arith)
-              ∙ sym (drop-drop 1 i out)
-              ∙ ap (drop 1) r.rest
-              ∙ drop-drop 1 i out₀;
-          place = rw k at r.place;
-        }
+    pub reading_stops : option_and_then value (word_of left) ≡ None → None ≡ elements value len left₀
+    unfolding elements
+    reading_stops e = rw (one_less, e) at r.front
 
-    module _ (h : len ≤ i) where
-      all : len ≡ i
-      all = omega (arith, r.below)
+    module _ (x : A) (e : option_and_then value (word_of left) ≡ Some x) where
+      joined : (o : Option (List A)) → option_map (λ xs. take (i + 1) (set list i x) ++ xs) o ≡ option_map (λ xs. take i list ++ xs) (option_map (λ xs. x ∷ xs) o)
+      joined None = refl
+      joined (Some xs) =
+          let b : i < length list = omega (arith, r.size) in
+          ap Some (ap (λ t. t ++ xs) (rw (add-one i) (take-suc-set list i x b)) ∙ append_assoc (take i list) (x ∷ []) xs)
 
-      none : len - i ≡ 0
-      none = omega arith
+      pub reading_goes_on : Reading value left₀ len (set list i x) (after_word left) (i + 1)
+      unfolding elements after_words
+      reading_goes_on =
+          record {
+            size = length-set list i x ∙ r.size;
+            front = joined (elements value (len - (i + 1)) (after_word left)) ∙ (rw (one_less, e) at r.front);
+            place = rw one_less at r.place;
+          }
 
-      pub reading_stored : out ≡ elements value next len c₀ ++ drop len out₀
-      unfolding elements
-      reading_stored =
-          sym (take-append-drop i out)
-          ∙ ap (λ t. t ++ drop i out) (sym (append-nil (take i out)) ∙ (rw none at r.front))
-          ∙ ap (λ t. elements value next len c₀ ++ t) (r.rest ∙ ap (λ k. drop k out₀) (sym all))
+  module _ (h : len ≤ i) where
+    none_left : len - i ≡ 0
+    none_left = omega arith
 
-      pub reading_ends : c ≡ after value next len c₀
-      unfolding after
-      reading_ends = rw none at r.place
+    pub reading_ends : i ≤ len → Some list ≡ elements value len left₀
+    unfolding elements
+    reading_ends p =
+        let e : i ≡ length list = omega (arith, r.size) in
+        let f = rw none_left at r.front in
+        sym (ap Some (append-nil (take i list) ∙ ap (λ k. take k list) e ∙ take-length list)) ∙ f
+
+    pub reading_ends_at : left ≡ after_words len left₀
+    unfolding after_words
+    reading_ends_at = rw none_left at r.place

@@ -1,15 +1,9 @@
--- Two lists compared from place i on. Assumes nothing.
-use Prim.Native.Nat.{ℕ, suc, ◌+◌, ◌<◌, ◌≤◌}
-use mathlib.Core.Path.{◌≡◌, refl, sym, ap, ◌∙◌}
-use mathlib.Core.Bool.{Bool, true, false, ◌&&◌}
-use mathlib.Core.List.{List, [], ◌∷◌}
-use native.Mathlib.Numerals.{add-one}
-use native.Mathlib.Omega.{arith}
-use lib.ListN.{length, drop, get_or}
-use lib.Seq.{drop-cons, drop-length}
+-- Lists compared pair by pair. Assumes nothing.
+use Rattle.std.proofs.Common.{◌≡◌, refl, sym, ap, suc, Bool, true, false, ◌&&◌, List, [], ◌∷◌, length}
+use Rattle.std.specs.List.{list_all, zip}
 use Rattle.math.specs.Lists.{same_lists}
 
-and_false : (b : Bool) → b && false ≡ false
+and_false : (b : Bool) → (b && false) ≡ false
 and_false true = refl
 and_false false = refl
 
@@ -21,22 +15,9 @@ module _ {A : Type 0} (same : A → A → Bool) where
   unequal_lengths (x ∷ a) [] h = refl
   unequal_lengths (x ∷ a) (y ∷ b) h = rw (← unequal_lengths a b (λ e. h (ap suc e))) (sym (and_false (same x y)))
 
-  module _ (a b : List A) (d : A) (i : ℕ) (e : length a ≡ length b) where
-    pub same_here : i < length a → same (get_or a i d) (get_or b i d) ≡ true → same_lists same (drop i a) (drop i b) ≡ same_lists same a b → same_lists same (drop (i + 1) a) (drop (i + 1) b) ≡ same_lists same a b
-    unfolding same_lists
-    same_here p q inv =
-        let pb : i < length b = omega arith in
-        rw (add-one i) (rw (drop-cons a i d p, drop-cons b i d pb, q) at inv)
-
-    pub other_here : i < length a → same (get_or a i d) (get_or b i d) ≡ false → same_lists same (drop i a) (drop i b) ≡ same_lists same a b → false ≡ same_lists same a b
-    unfolding same_lists
-    other_here p q inv =
-        let pb : i < length b = omega arith in
-        rw (drop-cons a i d p, drop-cons b i d pb, q) at inv
-
-    pub same_all : i ≤ length a → length a ≤ i → same_lists same (drop i a) (drop i b) ≡ same_lists same a b → true ≡ same_lists same a b
-    unfolding same_lists
-    same_all p q inv =
-        let n : i ≡ length a = omega arith in
-        let m : i ≡ length b = omega arith in
-        sym (rw (ap (λ k. drop k a) n ∙ drop-length a, ap (λ k. drop k b) m ∙ drop-length b)) ∙ inv
+  pub by_pairs : (a b : List A) → length a ≡ length b → list_all (λ p. same p.0 p.1) (zip a b) ≡ same_lists same a b
+  unfolding same_lists
+  by_pairs [] [] h = refl
+  by_pairs [] (y ∷ b) h = cc
+  by_pairs (x ∷ a) [] h = cc
+  by_pairs (x ∷ a) (y ∷ b) h = ap (λ t. same x y && t) (by_pairs a b (cc))

@@ -1,49 +1,49 @@
--- What a word of digits says.
-use Rattle.std.specs.Prelude.{ℕ, ◌+◌, ◌-◌, ◌*◌, ◌^◌, Bool, true, ◌&&◌, cond, List, [], ◌∷◌, ltb, eqb, length}
+-- What a word of digits says; none is a fault.
+use Rattle.std.specs.Prelude.{ℕ, ◌+◌, ◌-◌, ◌*◌, ◌^◌, Bool, true, false, ◌&&◌, cond, List, [], ◌∷◌, ltb, eqb, length, Option, Some, None, unwrap_or, option_map, Float}
 use Rattle.std.specs.Float.{binary64, nan}
 use Rattle.std.specs.Float.Ieee.{of_bits}
 use Rattle.math.specs.Lists.{same_bytes}
-use Rattle.replay_cases.specs.declared.digits.Number.{Number}
-use Rattle.replay_cases.specs.declared.digits.Real.{Real}
 
--- the value of the digits `0` to `9` and `a` to `f` (48 to 57, 97 to 102); any other byte has 16
-unfoldable pub digit_of : ℕ → ℕ
-digit_of b = cond (ltb b 48) 16 (cond (ltb b 58) (b - 48) (cond (ltb b 97) 16 (cond (ltb b 103) (b - 87) 16)))
+-- the value of the digits `0` to `9` and `a` to `f` (48 to 57, 97 to 102)
+unfoldable pub digit_of : ℕ → Option ℕ
+digit_of b =
+    cond (ltb b 48) None (cond (ltb b 58) (Some (b - 48)) (cond (ltb b 97) None (cond (ltb b 103) (Some (b - 87)) None)))
+
+-- a digit's value, if it is below the base
+abbrev pub is_below : ℕ → Option ℕ → Bool
+is_below base None = false
+is_below base (Some d) = ltb d base
 
 -- whether every byte of a word is a digit below the base
 unfoldable pub are_digits : ℕ → List ℕ → Bool
 are_digits base [] = true
-are_digits base (b ∷ w) = ltb (digit_of b) base && are_digits base w
+are_digits base (b ∷ w) = is_below base (digit_of b) && are_digits base w
 
 -- the digits of a word as a number, the most significant first, after those that make n
 unfoldable pub value_from : ℕ → ℕ → List ℕ → ℕ
 value_from base n [] = n
-value_from base n (b ∷ w) = value_from base (n * base + digit_of b) w
+value_from base n (b ∷ w) = value_from base (n * base + unwrap_or (digit_of b) 0) w
 
-abbrev pub value : ℕ → List ℕ → ℕ
-value base w = value_from base 0 w
+-- that number, if a word's bytes are all digits and it is below 2 ^ 64
+unfoldable pub number_from : ℕ → ℕ → List ℕ → Option ℕ
+number_from base n w = cond (are_digits base w && ltb (value_from base n w) (2 ^ 64)) (Some (value_from base n w)) None
 
 -- the number that a word's digits say, if it is below 2 ^ 64
-unfoldable pub number_of : ℕ → List ℕ → Number
-number_of base w = cond (are_digits base w && ltb (value base w) (2 ^ 64)) (Number.Is (value base w)) Number.Fault
+abbrev pub number_of : ℕ → List ℕ → Option ℕ
+number_of base w = number_from base 0 w
 
 -- 16 hexadecimal digits
-unfoldable pub hex_of : List ℕ → Number
-hex_of w = cond (eqb (length w) 16) (number_of 16 w) Number.Fault
+unfoldable pub hex_of : List ℕ → Option ℕ
+hex_of w = cond (eqb (length w) 16) (number_of 16 w) None
 
 -- at least one decimal digit
-unfoldable pub decimal_of : List ℕ → Number
-decimal_of w = cond (eqb (length w) 0) Number.Fault (number_of 10 w)
-
--- the float whose bits a number is
-unfoldable pub with_bits : Number → Real
-with_bits (Number.Is b) = Real.Is (of_bits binary64 b)
-with_bits Number.Fault = Real.Fault
+unfoldable pub decimal_of : List ℕ → Option ℕ
+decimal_of w = cond (eqb (length w) 0) None (number_of 10 w)
 
 -- `nan`
 abbrev pub nan_word : List ℕ
 nan_word = 110 ∷ 97 ∷ 110 ∷ []
 
 -- the word `nan` is the NaN, and any other word a float by its bits
-unfoldable pub float_of : List ℕ → Real
-float_of w = cond (same_bytes w nan_word) (Real.Is nan) (with_bits (hex_of w))
+unfoldable pub float_of : List ℕ → Option Float
+float_of w = cond (same_bytes w nan_word) (Some nan) (option_map (of_bits binary64) (hex_of w))

@@ -1,8 +1,5 @@
 pub mod Same
 pub mod Lent
 pub mod Digits
-pub mod Find
-pub mod Cursor
-pub mod Lists
-pub mod Lines
+pub mod Words
 pub mod Tally

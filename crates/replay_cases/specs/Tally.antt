@@ -1,12 +1,9 @@
--- What a judge says of a line, and what holds of every count.
-use Rattle.std.specs.Prelude.{ℕ, ◌≤◌, Bool, cond, get_or}
-use Rattle.replay_cases.specs.declared.tally.Tally.{Tally}
+-- What a line comes to.
+use Rattle.std.specs.Prelude.{ℕ, Bool, true, false, Option, Some, None}
 use Rattle.replay_cases.specs.declared.tally.Verdict.{Verdict}
 
--- of a line of operation `op`, by whether the answers are the same
-abbrev pub verdict_of : ℕ → Bool → Verdict
-verdict_of op same = cond same (Verdict.Agrees op) (Verdict.Differs op)
-
--- no operation has more agreements than lines
-abbrev pub Sound : Tally → Type 0
-Sound t = (op : ℕ) → get_or t.agree op 0 ≤ get_or t.lines op 0
+-- of a line of operation `op`, by whether the answers agree; a malformed line has no answer
+abbrev pub verdict_of : ℕ → Option Bool → Verdict
+verdict_of op (Some true) = Verdict.Agrees op
+verdict_of op (Some false) = Verdict.Differs op
+verdict_of op None = Verdict.Malformed

@@ -18,9 +18,8 @@ pub const KEPT: u64 = 987654321;
 pub fn begins_with(stored: &[f64], values: &[f64]) -> bool
     ensures { result ≡ begins_with stored.now values.now }
 {
-    let n = values.len();
-    if n > stored.len() {
-        return false;
+    match stored.get(..values.len()) {
+        Some(front) => same_floats(values, front),
+        None => false,
     }
-    same_floats(values, &stored[0..n])
 }

@@ -1,13 +1,12 @@
 // Reads answer lines: `exp 3ff0000000000000 = 4005bf0a8b14576a`. Words stand apart by one space, a
 // float is the 16 lowercase digits of its bits or `nan`, a whole number is decimal, and a list is
-// its length and then its elements. No function here has a `requires`; a fault is an answer.
+// its length and then its elements. A fault in a line is an answer.
 #![tactic(auto)]
 
-pub mod cursor;
 pub mod digits;
-mod find;
 pub mod lent;
 pub mod lines;
-pub mod lists;
+pub mod replay;
 pub mod same;
 pub mod tally;
+pub mod words;

@@ -1,5 +1,6 @@
 // Equality of floats, bit by bit.
 ghost use Rattle.std.specs.Prelude.{◌≡◌};
+ghost use Rattle.std.specs.List.{list_all, zip};
 ghost use Rattle.math.specs.Lists.{same_lists};
 ghost use Rattle.replay_cases.specs.Same.{same_bits};
 
@@ -12,19 +13,16 @@ pub fn same_float(a: f64, b: f64) -> bool
     bits_of(a) == bits_of(b)
 }
 
+// Whether the pairs have the same bits, as far as both lists go.
+fn same_pairs(a: &[f64], b: &[f64]) -> bool
+    ensures { result ≡ list_all (λ p. same_bits p.0 p.1) (zip a.now b.now) }
+{
+    a.iter().zip(b).all(|(x, y)| same_float(*x, *y))
+}
+
 // Whether two lists of floats have the same bits.
 pub fn same_floats(a: &[f64], b: &[f64]) -> bool
     ensures { result ≡ same_lists same_bits a.now b.now }
 {
-    if a.len() != b.len() {
-        return false;
-    }
-    let mut i = 0;
-    while i < a.len() {
-        if !same_float(a[i], b[i]) {
-            return false;
-        }
-        i += 1;
-    }
-    true
+    a.len() == b.len() && same_pairs(a, b)
 }

@@ -1,151 +1,128 @@
-// What a replay counts and prints: for each operation, of which a program has at most four, the
-// lines and how many agreed.
-ghost use Rattle.std.specs.Prelude.{◌≡◌, ◌<◌};
-ghost use Rattle.replay_cases.specs.Tally.{Sound, verdict_of};
+// What a replay counts and prints.
+ghost use Rattle.std.specs.Prelude.{◌≡◌, ◌<◌, ◌≤◌, vec_len};
+ghost use Rattle.replay_cases.specs.Tally.{verdict_of};
 
-use crate::lines::{Run, more};
-use std::io;
-use std::io::Write;
+use std::alloc::{AllocError, Global};
+use std::fmt;
 
-// What a judge says of a line: the operation's place, and whether the answers agree.
-#[derive(Clone, Copy)]
+// What a line comes to: the operation's place, and whether the answers agree.
+#[derive(Clone, Copy, Debug, PartialEq, Eq)]
 pub enum Verdict {
     Agrees(usize),
     Differs(usize),
     Malformed,
 }
 
-#[derive(Clone, Copy)]
-pub struct Tally {
-    pub lines: [u64; 4],
-    pub agree: [u64; 4],
-    // the number of the first line that differs, 0 where none does
-    pub differs: [u64; 4],
-    pub malformed: u64,
-    // the number of the first malformed line
-    pub bad: u64,
-    // lines without an end or too long, and a failed read
-    pub unread: u64,
-}
-
-pub fn none() -> Tally
-    ensures { Sound result }
+// Of a line of operation `op`, by whether the answers agree, which a malformed line does not say.
+pub fn verdict_of(op: usize, agrees: Option<bool>) -> Verdict
+    ensures { result ≡ verdict_of op agrees }
 {
-    Tally {
-        lines: [0; 4],
-        agree: [0; 4],
-        differs: [0; 4],
-        malformed: 0,
-        bad: 0,
-        unread: 0,
+    match agrees {
+        Some(true) => Verdict::Agrees(op),
+        Some(false) => Verdict::Differs(op),
+        None => Verdict::Malformed,
     }
 }
 
-pub fn verdict_of(op: usize, same: bool) -> Verdict
-    ensures { result ≡ verdict_of op same }
-{
-    if same {
-        Verdict::Agrees(op)
-    } else {
-        Verdict::Differs(op)
-    }
+// The lines of an operation, and how many agreed.
+#[derive(Clone, Copy, Debug)]
+pub struct Operation {
+    pub name: &'static str,
+    pub lines: u64,
+    pub agree: u64,
+    pub first_differs: Option<u64>,
+    ghost sound: { agree ≤ lines },
 }
 
-// The number of the first line of a kind, given that before this line; lines count from 1.
-fn first(before: u64, number: u64) -> u64 {
-    if before == 0 { number } else { before }
-}
-
-fn malformed(mut t: Tally, number: u64) -> Tally
-    ensures { Sound t → Sound result }
-{
-    t.bad = first(t.bad, number);
-    t.malformed = more(t.malformed);
-    t
-}
-
-fn agrees(mut t: Tally, op: usize) -> Tally
-    requires { op < 4 }
-    ensures { Sound t → Sound result }
-{
-    let mut lines = t.lines;
-    let mut agree = t.agree;
-    lines[op] = more(lines[op]);
-    agree[op] = more(agree[op]);
-    t.lines = lines;
-    t.agree = agree;
-    t
-}
-
-fn differs(mut t: Tally, op: usize, number: u64) -> Tally
-    requires { op < 4 }
-    ensures { Sound t → Sound result }
-{
-    let mut lines = t.lines;
-    let mut differs = t.differs;
-    lines[op] = more(lines[op]);
-    differs[op] = first(differs[op], number);
-    t.lines = lines;
-    t.differs = differs;
-    t
-}
-
-// The line of this number, counted.
-pub fn counted(t: Tally, v: Verdict, number: u64) -> Tally
-    ensures { Sound t → Sound result }
-{
-    match v {
-        Verdict::Agrees(op) => {
-            if op < 4 {
-                agrees(t, op)
-            } else {
-                malformed(t, number)
-            }
+impl Operation {
+    pub fn new(name: &'static str) -> Self {
+        Operation {
+            name,
+            lines: 0,
+            agree: 0,
+            first_differs: None,
         }
-        Verdict::Differs(op) => {
-            if op < 4 {
-                differs(t, op, number)
-            } else {
-                malformed(t, number)
-            }
-        }
-        Verdict::Malformed => malformed(t, number),
     }
-}
 
-// At the end of the input: the reader's own faults, so that they are seen.
-pub fn at_end(mut t: Tally, run: Run) -> Tally
-    ensures { Sound t → Sound result }
-{
-    t.unread = run.faults;
-    t
+    // Line `number` is one of this operation.
+    fn count(&mut self, number: u64, agrees: bool) {
+        self.lines = self.lines.saturating_add(1);
+        if agrees {
+            self.agree = self.agree.saturating_add(1);
+        } else {
+            self.first_differs = self.first_differs.or(Some(number));
+        }
+    }
 }
 
 // `exp: 4499 of 4499 agree`, and the first line that differs, if there is one.
-pub fn print_operation<W: Write>(out: &mut W, t: Tally, op: usize, name: &[u8]) -> io::Result<()> {
-    if op < 4 {
-        let lines = t.lines;
-        let agree = t.agree;
-        let differs = t.differs;
-        out.write_all(name)?;
-        writeln!(out, ": {} of {} agree", agree[op], lines[op])?;
-        print_first(out, name, b" first differs in line ", differs[op])?;
+impl fmt::Display for Operation {
+    fn fmt<W: fmt::Write>(&self, f: &mut fmt::Formatter<W>) -> fmt::Result {
+        writeln!(f, "{}: {} of {} agree", self.name, self.agree, self.lines)?;
+        if let Some(number) = self.first_differs {
+            writeln!(f, "{} first differs in line {number}", self.name)?;
+        }
+        Ok(())
     }
-    Ok(())
 }
 
-fn print_first<W: Write>(out: &mut W, name: &[u8], text: &[u8], number: u64) -> io::Result<()> {
-    if number > 0 {
-        out.write_all(name)?;
-        out.write_all(text)?;
-        writeln!(out, "{number}")?;
-    }
-    Ok(())
+#[derive(Debug, Drop)]
+pub struct Tally {
+    pub operations: Vec<Operation>,
+    pub malformed: u64,
+    pub first_malformed: Option<u64>,
+    // Lines without an end or too long, and a failed read.
+    pub unread: u64,
 }
 
-// `malformed: 0`, and what else went wrong, if anything did.
-pub fn print_malformed<W: Write>(out: &mut W, t: Tally) -> io::Result<()> {
-    writeln!(out, "malformed: {}", t.malformed)?;
-    print_first(out, b"malformed", b" first in line ", t.bad)?;
-    print_first(out, b"lines", b" that could not be read: ", t.unread)
+impl Tally {
+    pub fn new(alloc: Global, names: &[&'static str]) -> Result<Self, AllocError> {
+        let mut operations = Vec::new(alloc);
+        for name in names {
+            operations.push(Operation::new(name))?;
+        }
+        Ok(Tally {
+            operations,
+            malformed: 0,
+            first_malformed: None,
+            unread: 0,
+        })
+    }
+
+    // The line of this number, counted.
+    pub fn count(&mut self, number: u64, verdict: Verdict) {
+        match verdict {
+            Verdict::Agrees(op) if op < self.operations.len() => {
+                self.operations[op].count(number, true)
+            }
+            Verdict::Differs(op) if op < self.operations.len() => {
+                self.operations[op].count(number, false)
+            }
+            _ => {
+                self.malformed = self.malformed.saturating_add(1);
+                self.first_malformed = self.first_malformed.or(Some(number));
+            }
+        }
+    }
+
+    pub fn count_unread(&mut self) {
+        self.unread = self.unread.saturating_add(1);
+    }
+}
+
+// Each operation, then `malformed: 0`, and what else went wrong, if anything did.
+impl fmt::Display for Tally {
+    fn fmt<W: fmt::Write>(&self, f: &mut fmt::Formatter<W>) -> fmt::Result {
+        for operation in &self.operations {
+            write!(f, "{operation}")?;
+        }
+        writeln!(f, "malformed: {}", self.malformed)?;
+        if let Some(number) = self.first_malformed {
+            writeln!(f, "malformed first in line {number}")?;
+        }
+        if self.unread > 0 {
+            writeln!(f, "lines that could not be read: {}", self.unread)?;
+        }
+        Ok(())
+    }
 }

@@ -2,14 +2,14 @@
 // it must write was made by Python's `float`, which rounds correctly.
 #![tactic(auto)]
 
-use read_decimal::{Decimal, read_decimal};
+use read_decimal::read_decimal;
 use std::io;
 use std::io::{Read, Write};
 
 fn answer<W: Write>(out: &mut W, line: &[u8]) -> io::Result<()> {
     match read_decimal(line) {
-        Decimal::Value(x) => writeln!(out, "{:016x}", math::words::bits_of(x)),
-        Decimal::Fault(k) => writeln!(out, "fault {k}"),
+        Ok(x) => writeln!(out, "{:016x}", math::words::bits_of(x)),
+        Err(e) => writeln!(out, "fault {}", e.number()),
     }
 }
 

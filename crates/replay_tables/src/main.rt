@@ -5,22 +5,22 @@
 use read_table::read_table;
 use std::io;
 use std::io::Write;
-
-fn number<W: Write>(out: &mut W, n: u64, after: &[u8]) -> io::Result<()> {
-    write!(out, "{n}")?;
-    out.write_all(after)
-}
+use text_buffer::Span;
 
 fn shown<W: Write>(out: &mut W, text: &[u8]) -> io::Result<()> {
     let mut doses = [0.0; 4];
     let mut grams = [0.0; 4];
-    let mut groups = [0u64; 4];
-    let mut names = [0u64; 4];
-    let t = read_table(text, &mut doses, &mut grams, &mut groups, &mut names);
-    number(out, t.fault, b" ")?;
-    number(out, t.line, b" ")?;
-    number(out, t.count as u64, b" ")?;
-    number(out, t.canisters as u64, b"\n")
+    let mut groups = [0; 4];
+    let mut names = [Span { start: 0, stop: 0 }; 2];
+    let (fault, read) = match read_table(text, &mut doses, &mut grams, &mut groups, &mut names) {
+        Ok(read) => (0, read),
+        Err(e) => (e.fault.number(), e.read),
+    };
+    writeln!(
+        out,
+        "{fault} {} {} {}",
+        read.lines, read.count, read.canisters
+    )
 }
 
 fn good<W: Write>(out: &mut W) -> io::Result<()> {

@@ -2,5 +2,6 @@
 #![tactic(auto)]
 
 pub mod columns;
+pub mod same;
 pub mod template;
 pub mod words;

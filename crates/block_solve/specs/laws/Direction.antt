@@ -1,7 +1,6 @@
 -- Which sizes `solve` takes, for callers: the others have no direction.
-use Rattle.std.specs.Prelude.{ℕ, ◌+◌, ◌*◌, ◌≤◌, ◌≡◌, false, Float}
+use Rattle.std.specs.Prelude.{ℕ, ◌+◌, ◌*◌, ◌≤◌, ◌≡◌, false, Float, None}
 use Rattle.std.proofs.Math.Path.{refl}
-use Rattle.std.proofs.Math.Option.{none}
 use borrow.Author.Tests.{le-leb, eq-eqb}
 use Rattle.block_solve.specs.declared.normal.BlockNormal.{BlockNormal}
 use Rattle.block_solve.specs.Direction.{finished_of, fitting, solved_of}
@@ -9,7 +8,7 @@ use Rattle.block_solve.specs.Direction.{finished_of, fitting, solved_of}
 -- ---- what `solve` answers and leaves in the list that it is lent
 
 module _ (n : BlockNormal) (p k groups : ℕ) (t : Float) (size : ℕ) where
-  pub solve_refuses : fitting p k groups size ≡ false → solved_of n p k groups t size ≡ none
+  pub solve_refuses : fitting p k groups size ≡ false → solved_of n p k groups t size ≡ None
   unfolding solved_of
   solve_refuses h = rw h refl
 

@@ -1,13 +1,14 @@
-use mathlib.Core.Path.{◌≡◌}
-use Prim.Native.Nat.{◌+◌, ◌*◌, ◌≤◌}
-use lib.ListN.{length}
-use Rattle.read_table.specs.Table.{state, lines_of, table_of}
+use Rattle.std.proofs.Common.{◌≡◌, ◌-◌, ◌≤◌, length}
+use Rattle.read_table.specs.Table.{lists, state, lines_of, table_of, InBounds}
 use Rattle.read_table.proofs.read_table.Given as goal
 
-abbrev pub invariant-loop-doses : goal.invariant-loop-doses
-invariant-loop-doses l = (l.p.line + l.left ≤ length l.text) × (l.p.count ≤ length l.doses) × (l.p.count ≤ length l.grams) × (l.p.count ≤ length l.groups) × (2 * l.p.canisters ≤ length l.names)
-    × (length l.doses ≡ length l.initial.doses) × (length l.grams ≡ length l.initial.grams) × (length l.groups ≡ length l.initial.groups) × (length l.names ≡ length l.initial.names)
-    × (lines_of l.left l.text (state l.p l.doses l.grams l.groups l.names) ≡ table_of l.text l.initial.doses l.initial.grams l.initial.groups l.initial.names)
+-- the lines left make of what was read what all lines make
+abbrev pub invariant-loop-p : goal.invariant-loop-p
+invariant-loop-p l = record {
+  same_end : lines_of (length l.text) l.text (state l.p l.doses l.grams l.groups l.names) ≡ table_of l.fn.text l.fn.doses l.fn.grams l.fn.groups l.fn.names;
+  in_bounds : InBounds (lists l.p.read l.doses l.grams l.groups l.names);
+  few_lines : l.p.read.lines ≤ l.p.at;
+}
 
-abbrev pub decreases-loop-doses : goal.decreases-loop-doses
-decreases-loop-doses l = l.left
+abbrev pub decreases-loop-p : goal.decreases-loop-p
+decreases-loop-p l = length l.text - l.p.at

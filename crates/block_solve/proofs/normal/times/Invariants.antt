@@ -1,12 +1,7 @@
-use mathlib.Core.Path.{◌≡◌}
-use Prim.Native.Nat.{◌-◌, ◌≤◌}
-use lib.ListN.{length}
+use Rattle.std.proofs.Common.{◌≡◌}
 use Rattle.math.specs.Loops.{iter}
 use Rattle.block_solve.specs.Normal.{times_at}
 use Rattle.block_solve.proofs.normal.times.Given as goal
 
 abbrev pub invariant-loop-j : goal.invariant-loop-j
-invariant-loop-j l = (l.j ≤ length l.b) × (l.t ≡ iter (times_at l.m l.i l.b) l.j l.initial.t)
-
-abbrev pub decreases-loop-j : goal.decreases-loop-j
-decreases-loop-j l = length l.b - l.j
+invariant-loop-j l = l.t ≡ iter (times_at l.m l.i l.b) l.j l.initial.t

@@ -1,28 +1,19 @@
--- The loop's invariant: the digits left continue m to what all digits make of n. A number that has reached the limit only grows. Assumes nothing.
-use Rattle.std.proofs.Common.{refl, ap, ◌∙◌, arith}
-use Rattle.read_decimal.specs.Scan.{capped}
-use Rattle.read_decimal.proofs.ScanLaws.{number_large, number_more, number_done, capped_small}
+-- A number that has reached the limit only grows. Assumes nothing.
+use Rattle.std.proofs.Common.{◌+◌, arith, add-one, drop, drop-cons, drop_of_length-le}
+use Rattle.read_decimal.specs.Scan.{value_from}
+use Rattle.read_decimal.proofs.NumberLaws.{capped_from}
 use Rattle.read_decimal.proofs.scan.number.Goals as goal
 
-pub loop-i-init : goal.loop-i-init
-loop-i-init c = (omega arith, refl)
+pub loop-b-init : goal.loop-b-init
+loop-b-init c = (omega arith, rw c.min-m.ensures (capped_from c.args.n c.args.digits.now))
 
-pub returns-then-m-ge1000000000000000 : goal.returns-then-m-ge1000000000000000
-returns-then-m-ge1000000000000000 c =
-    let a = c.args in
-    number_large a.digits.now a.n c.loop-i.i c.loop-i.m c.loop-i.invariant.1 c.if-m-ge1000000000000000.true
-
-pub loop-i-preserved : goal.loop-i-preserved
-loop-i-preserved c =
-    let a = c.args in
-    (omega arith, number_more a.digits.now a.n c.loop-i.i c.loop-i.m c.loop-i.invariant.1 _ c.loop-i-test.true c.digit.ensures.value)
-
-pub returns-then-m-ge1000000000000000-2 : goal.returns-then-m-ge1000000000000000-2
-returns-then-m-ge1000000000000000-2 c =
-    let a = c.args in
-    number_large a.digits.now a.n c.loop-i.i c.loop-i.m c.loop-i.invariant.1 c.if-m-ge1000000000000000-2.true
+pub loop-b-preserved : goal.loop-b-preserved
+unfolding value_from
+loop-b-preserved c =
+    let i = c.loop-b.b-index in
+    let w = c.args.digits.now in
+    (omega arith, rw (c.min-m-in-loop-b.ensures, c.from.ensures, c.saturating_sub.ensures, capped_from _ (drop (i + 1) w), add-one i) (rw (drop-cons w i 0 c.loop-b-test.true) at c.loop-b.invariant.1))
 
 pub returns : goal.returns
-returns c =
-    let a = c.args in
-    capped_small c.loop-i.m c.if-m-ge1000000000000000-2.false ∙ ap capped (number_done a.digits.now a.n c.loop-i.i c.loop-i.m c.loop-i.invariant.1 c.loop-i.invariant.0 c.loop-i-test.false)
+unfolding value_from
+returns c = omega (arith, rw (drop_of_length-le c.args.digits.now c.loop-b-test.false) at c.loop-b.invariant.1)

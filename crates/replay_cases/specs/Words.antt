@@ -1,0 +1,49 @@
+-- The words of a line, one after the other.
+use Rattle.std.specs.Prelude.{ℕ, zero, suc, ◌+◌, ◌==◌, Bool, cond, List, [], ◌∷◌, eqb, leb, length, take, drop, Option, Some, None, option_map, option_and_then}
+use Rattle.std.specs.List.{position}
+use Rattle.math.specs.Lists.{same_lists}
+use Rattle.replay_cases.specs.Digits.{decimal_of}
+
+-- a line cut at a place: what stands before it, and what is left after it; without a place nothing is left
+abbrev pub cut_at : Option ℕ → List ℕ → List ℕ × Option (List ℕ)
+cut_at None l = (l, None)
+cut_at (Some end) l = (take end l, Some (drop (end + 1) l))
+
+-- a line cut at its first space (32)
+abbrev pub cut : List ℕ → List ℕ × Option (List ℕ)
+cut l = cut_at (position (λ b. b == 32) l) l
+
+-- the next word of what is left of a line; no word is empty
+unfoldable pub word_of : Option (List ℕ) → Option (List ℕ)
+word_of None = None
+word_of (Some l) = cond (eqb (length (cut l).0) 0) None (Some (cut l).0)
+
+-- what is left after the next word; nothing is left after the last
+unfoldable pub after_word : Option (List ℕ) → Option (List ℕ)
+after_word left = option_and_then (λ l. (cut l).1) left
+
+-- what is left after n words
+unfoldable pub after_words : ℕ → Option (List ℕ) → Option (List ℕ)
+after_words zero left = left
+after_words (suc n) left = after_words n (after_word left)
+
+-- n elements, a word each; a fault in one is a fault of all
+unfoldable pub elements : {A : Type 0} → (List ℕ → Option A) → ℕ → Option (List ℕ) → Option (List A)
+elements value zero left = Some []
+elements value (suc n) left =
+    option_and_then (λ x. option_map (λ xs. x ∷ xs) (elements value n (after_word left))) (option_and_then value (word_of left))
+
+-- a list: its length in decimal, which must not be above `room`, and then its elements
+unfoldable pub list_of : {A : Type 0} → (List ℕ → Option A) → ℕ → Option (List ℕ) → Option (List A)
+list_of value room left =
+    option_and_then (λ n. cond (leb n room) (elements value n (after_word left)) None) (option_and_then decimal_of (word_of left))
+
+-- whether the next words say these values
+abbrev pub said : {A : Type 0} → (List ℕ → Option A) → (A → A → Bool) → List A → Option (List ℕ) → Option Bool
+said value same values left = option_map (λ xs. same_lists same xs values) (elements value (length values) left)
+
+-- whether the next words say this list; a list of another length is a fault
+unfoldable pub said_list : {A : Type 0} → (List ℕ → Option A) → (A → A → Bool) → List A → Option (List ℕ) → Option Bool
+said_list value same values left =
+    option_and_then (λ n. cond (eqb n (length values)) (said value same values (after_word left)) None)
+    (option_and_then decimal_of (word_of left))

@@ -1,0 +1,69 @@
+// Every line of an input, judged and counted.
+ghost use Rattle.std.specs.Prelude.{◌<◌, length, IfSome};
+
+use crate::lines::Lines;
+use crate::tally::{Operation, Tally, Verdict, verdict_of};
+use crate::words::Words;
+use std::alloc::{AllocError, Global};
+use std::io;
+use std::io::{BufRead, BufReader};
+
+// The place of the operation of this name.
+fn place_of(operations: &[Operation], name: &[u8]) -> Option<usize>
+    ensures { IfSome result (λ op. op < length operations.now) }
+{
+    operations
+        .iter()
+        .position(|operation| operation.name.as_bytes() == name)
+}
+
+// A judge reads the rest of a line after the operation's name and says whether what is computed
+// agrees with what is stored; a line that it does not read to its end is malformed.
+fn verdict<J: Fn(&str, &mut Words<'_>) -> Option<bool>>(
+    line: &[u8],
+    operations: &[Operation],
+    judge: &J,
+) -> Verdict
+    requires { J.IsAlwaysCallable judge.now }
+{
+    let mut words = Words::new(line);
+    let Some(op) = words.word().and_then(|name| place_of(operations, name)) else {
+        return Verdict::Malformed;
+    };
+    let agrees = judge(operations[op].name, &mut words);
+    verdict_of(op, words.end().and(agrees))
+}
+
+pub fn replay<B: BufRead + Drop, J: Fn(&str, &mut Words<'_>) -> Option<bool>>(
+    alloc: Global,
+    input: B,
+    names: &[&'static str],
+    judge: J,
+) -> Result<Tally, AllocError>
+    requires { J.IsAlwaysCallable judge }
+{
+    let mut tally = Tally::new(alloc, names)?;
+    for (number, line) in (1..u64::MAX).zip(Lines::new(alloc, input)) {
+        match line {
+            Ok(line) => {
+                let verdict = verdict(&line, &tally.operations, &judge);
+                tally.count(number, verdict);
+            }
+            Err(_) => tally.count_unread(),
+        }
+    }
+    Ok(tally)
+}
+
+// A whole program: standard input replayed, and the tally printed.
+pub fn replay_input<R: Input + Print + AllocGlobal, J: Fn(&str, &mut Words<'_>) -> Option<bool>>(
+    rt: &R,
+    names: &[&'static str],
+    judge: J,
+) -> io::Result<()>
+    requires { J.IsAlwaysCallable judge }
+{
+    let input = BufReader::new(rt.alloc(), rt.reader())?;
+    let tally = replay(rt.alloc(), input, names, judge)?;
+    print!(rt; "{tally}")
+}

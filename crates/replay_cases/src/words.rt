@@ -1,0 +1,202 @@
+// The words of a line, read one after the other. `None` is a fault; a caller reads all that a line
+// should hold with `?`, and asks for its end last.
+ghost use Rattle.std.specs.Prelude.{◌≡◌, ℕ, Bool, nat_eq, List, Option, ◌+◌, ◌≤◌, ◌↔◌, ◌==◌, Some, None, IsSome, IfSome, OnSome, length, option_map, option_and_then};
+ghost use Rattle.std.specs.List.{position};
+ghost use Rattle.replay_cases.specs.Words.{elements, cut, word_of, after_word, after_words, list_of, said, said_list};
+ghost use Rattle.replay_cases.specs.Digits.{decimal_of, float_of};
+ghost use Rattle.replay_cases.specs.Same.{same_bits};
+
+use crate::digits::{decimal, float_of};
+use crate::same::same_float;
+use std::marker::Model;
+
+// What a word can say.
+pub trait Value: Copy {
+    ghost value_of: { List ℕ → Option Self };
+
+    ghost same: { Self → Self → Bool };
+
+    fn from_word(word: &[u8]) -> Option<Self>
+        ensures { result ≡ value_of word.now };
+
+    fn is_same(self, other: Self) -> bool
+        ensures { result ≡ same self other };
+}
+
+impl Value for f64 {
+    ghost value_of = { float_of };
+
+    ghost same = { same_bits };
+
+    fn from_word(word: &[u8]) -> Option<f64> {
+        float_of(word)
+    }
+
+    fn is_same(self, other: f64) -> bool {
+        same_float(self, other)
+    }
+}
+
+impl Value for u64 {
+    ghost value_of = { decimal_of };
+
+    ghost same = { nat_eq };
+
+    fn from_word(word: &[u8]) -> Option<u64> {
+        decimal(word)
+    }
+
+    fn is_same(self, other: u64) -> bool {
+        self == other
+    }
+}
+
+// A count or an index.
+impl Value for usize {
+    ghost value_of = { decimal_of };
+
+    ghost same = { nat_eq };
+
+    fn from_word(word: &[u8]) -> Option<usize> {
+        decimal(word).map(|n| n as usize)
+    }
+
+    fn is_same(self, other: usize) -> bool {
+        self == other
+    }
+}
+
+fn first_space(line: &[u8]) -> Option<usize>
+    ensures { result ≡ position (λ b. b == 32) line.now }
+{
+    line.iter().position(|&b| b == b' ')
+}
+
+// The first word, up to a space or the end, and what is left after the space.
+fn split_word(line: &[u8]) -> (&[u8], Option<&[u8]>)
+    ensures word { result.0.now ≡ (cut line.now).0 }
+    ensures after { option_map (λ r. r.now) result.1 ≡ (cut line.now).1 }
+{
+    match first_space(line) {
+        Some(end) => (&line[..end], Some(&line[end + 1..])),
+        None => (line, None),
+    }
+}
+
+// The bytes that are still to be read; `None` past the last word.
+#[derive(Drop)]
+pub struct Words<'a> {
+    rest: Option<&'a [u8]>,
+}
+
+impl<'a> Model for Words<'a> {
+    ghost use Rattle.std.specs.Prelude.{Option, List, ℕ, option_map};
+
+    ghost Value = { Option (List ℕ) };
+
+    ghost view = { λ w. option_map (λ r. r.now) w.rest };
+}
+
+impl<'a> Words<'a> {
+    pub fn new(line: &'a [u8]) -> Self
+        ensures { result ≡ Some line.now }
+    {
+        Words { rest: Some(line) }
+    }
+
+    // The next word, up to a space or the line's end. An empty word is a fault.
+    #[tactic(auto, unfolding(crate::specs::Words::word_of, crate::specs::Words::after_word))]
+    pub fn word(&mut self) -> Option<&'a [u8]>
+        ensures value { option_map (λ w. w.now) result ≡ word_of self.old }
+        ensures rest { self.new ≡ after_word self.old }
+    {
+        let (word, after) = split_word(self.rest?);
+        self.rest = after;
+        if word.is_empty() { None } else { Some(word) }
+    }
+
+    // The next word, which must be `name`.
+    pub fn named(&mut self, name: &[u8]) -> Option<()>
+        ensures value { IsSome result ↔ (word_of self.old ≡ Some name.now) }
+        ensures rest { self.new ≡ after_word self.old }
+    {
+        let word = self.word()?;
+        (word == name).then_some(())
+    }
+
+    // The number or the float that the next word says.
+    pub fn value<T: Value>(&mut self) -> Option<T>
+        ensures value { result ≡ option_and_then T.value_of (word_of self.old) }
+        ensures rest { self.new ≡ after_word self.old }
+    {
+        let word = self.word()?;
+        T::from_word(word)
+    }
+
+    // As many values as `out` has places, put there.
+    pub fn values<T: Value>(&mut self, out: &mut [T]) -> Option<()>
+        ensures value { option_map (λ _. out.new) result ≡ elements T.value_of (length out.old) self.old }
+        ensures rest { OnSome result (self.new ≡ after_words (length out.old) self.old) }
+    {
+        for x in out.iter_mut() {
+            *x = self.value()?;
+        }
+        Some(())
+    }
+
+    // A list: its length, which must be at most that of `out`, and its elements, put at the start of `out`.
+    #[tactic(auto, unfolding(crate::specs::Words::list_of))]
+    pub fn list<'b, T: Value>(&mut self, out: &'b mut [T]) -> Option<&'b [T]>
+        ensures value { option_map (λ l. l.now) result ≡ list_of T.value_of (length out.old) self.old }
+        ensures rest { IfSome result (λ l. self.new ≡ after_words (length l.now + 1) self.old) }
+    {
+        let len = self.value::<usize>()?;
+        if len > out.len() {
+            return None;
+        }
+        let list = &mut out[..len];
+        self.values(list)?;
+        Some(list)
+    }
+
+    // Whether the next word says this value.
+    pub fn says<T: Value>(&mut self, value: T) -> Option<bool>
+        ensures value { result ≡ option_map (λ x. T.same x value) (option_and_then T.value_of (word_of self.old)) }
+        ensures rest { self.new ≡ after_word self.old }
+    {
+        let said = self.value::<T>()?;
+        Some(said.is_same(value))
+    }
+
+    // Whether the next words say these values.
+    pub fn says_each<T: Value>(&mut self, values: &[T]) -> Option<bool>
+        ensures value { result ≡ said T.value_of T.same values.now self.old }
+        ensures rest { OnSome result (self.new ≡ after_words (length values.now) self.old) }
+    {
+        let mut same = true;
+        for x in values {
+            same &= self.says(*x)?;
+        }
+        Some(same)
+    }
+
+    // Whether the next words say this list; a list of another length is a fault.
+    #[tactic(auto, unfolding(crate::specs::Words::said_list))]
+    pub fn says_list<T: Value>(&mut self, values: &[T]) -> Option<bool>
+        ensures value { result ≡ said_list T.value_of T.same values.now self.old }
+        ensures rest { OnSome result (self.new ≡ after_words (length values.now + 1) self.old) }
+    {
+        let len = self.value::<usize>()?;
+        if len != values.len() {
+            return None;
+        }
+        self.says_each(values)
+    }
+
+    // Whether every word has been read.
+    pub fn end(&self) -> Option<()>
+        ensures { IsSome result ↔ (self.now ≡ None) }
+    {
+        self.rest.is_none().then_some(())
+    }
+}
