@@ -1,137 +1,171 @@
 -- The words of the command line, one after the other.
-use Rattle.std.specs.Prelude.{ℕ, ◌+◌, ◌-◌, ◌*◌, Bool, true, false, not, ◌&&◌, cond, List, eqb, ltb, length, get_or, set, drop, replicate}
-use Rattle.text_buffer.specs.Text.{bytes}
-use Rattle.text_lines.specs.Lines.{word_of, number_of}
-use Rattle.refit_options.specs.declared.options.Options.{Options}
-use Rattle.refit_options.specs.Words.{name_of, curve_of, place_of}
+use Rattle.std.specs.Prelude.{ℕ, ◌+◌, ◌-◌, ◌*◌, Bool, true, false, ◌&&◌, ◌||◌, cond, List, [], ◌∷◌, ◌==◌, nat_le, nat_lt, length, drop, find, slice_index, codes, Option, Some, None, Result, Ok, Err, is_some, unwrap_or}
+use Rattle.std.specs.Borrow.{Bor}
+use Rattle.std.specs.Char.{is_ascii_digit}
+use Rattle.std.specs.List.{list_any}
+use Rattle.std.specs.Str.{str_eq_ignore_ascii_case}
+use Rattle.curves.specs.declared.mean_fn.Curve.{Curve}
+use Rattle.curves.specs.MeanFn.{code_of}
+use Rattle.refit_options.specs.declared.options.OptionFault.{OptionFault}
+use Rattle.refit_options.specs.declared.options.OptionError.{OptionError}
+use Rattle.refit_options.specs.declared.options.Wanted.{Wanted}
+use Rattle.refit_options.specs.declared.options.Page.{Page}
+use Rattle.refit_options.specs.declared.options.Flag.{Flag}
+use Rattle.refit_options.specs.declared.options.Command.{Command}
+use Rattle.refit_options.specs.declared.options.Asked.{Asked}
+use Rattle.refit_options.specs.Words.{is_name, curve_named, place_of}
 
--- ---- what is asked for, field by field
+-- a word of the command line, as it is lent
+abbrev pub Word : Type 0
+Word = Bor (List ℕ)
 
-abbrev pub options_of : ℕ → ℕ → ℕ → ℕ → ℕ → ℕ → ℕ → ℕ → Bool → ℕ → ℕ → ℕ → ℕ → List Bool → Options
-options_of f a h w c e ea p r n i s st sd =
-    record { fault = f; at = a; prints = h; awaits = w; code = c; effect = e; effect_at = ea; place = p; reml = r; n_agq = n; file = i; svg = s; start = st; said = sd }
+abbrev pub nothing_asked : Asked
+nothing_asked =
+    record { awaits = None; page = None; curve = None; effect = None; reml = None; n_agq = None; file = None; svg = None; start = None }
 
--- SSlogis, maximum likelihood, no quadrature
-abbrev pub nothing_asked : Options
-nothing_asked = options_of 0 0 0 0 1 0 0 0 false 1 0 0 0 (replicate 8 false)
-
--- the fault of word i
-abbrev pub faulty_at : Options → ℕ → ℕ → Options
-faulty_at o f i = options_of f i o.prints o.awaits o.code o.effect o.effect_at o.place o.reml o.n_agq o.file o.svg o.start o.said
-
--- word i is an option that awaits a word
-abbrev pub awaiting : Options → ℕ → ℕ → Options
-awaiting o w i = options_of o.fault i o.prints w o.code o.effect o.effect_at o.place o.reml o.n_agq o.file o.svg o.start o.said
-
--- an option is said
-abbrev pub saying : Options → ℕ → Options
-saying o k = options_of o.fault o.at o.prints o.awaits o.code o.effect o.effect_at o.place o.reml o.n_agq o.file o.svg o.start (set o.said k true)
-
--- the help or the version is to be printed
-abbrev pub printing : Options → ℕ → Options
-printing o k = options_of o.fault o.at k o.awaits o.code o.effect o.effect_at o.place o.reml o.n_agq o.file o.svg o.start o.said
-
-abbrev pub with_reml : Options → Bool → Options
-with_reml o r = options_of o.fault o.at o.prints o.awaits o.code o.effect o.effect_at o.place r o.n_agq o.file o.svg o.start o.said
-
-abbrev pub with_file : Options → ℕ → Options
-with_file o i = options_of o.fault o.at o.prints o.awaits o.code o.effect o.effect_at o.place o.reml o.n_agq i o.svg o.start o.said
-
-abbrev pub with_place : Options → ℕ → Options
-with_place o p = options_of o.fault o.at o.prints o.awaits o.code o.effect o.effect_at p o.reml o.n_agq o.file o.svg o.start o.said
-
--- the word that was awaited: a curve's code, an effect's name and word, an order of quadrature, a picture's word, the start values' word
-abbrev pub with_curve : Options → ℕ → Options
-with_curve o c = options_of o.fault o.at o.prints 0 c o.effect o.effect_at o.place o.reml o.n_agq o.file o.svg o.start o.said
-
-abbrev pub with_effect : Options → ℕ → ℕ → Options
-with_effect o e i = options_of o.fault o.at o.prints 0 o.code e i o.place o.reml o.n_agq o.file o.svg o.start o.said
-
-abbrev pub with_order : Options → ℕ → Options
-with_order o n = options_of o.fault o.at o.prints 0 o.code o.effect o.effect_at o.place o.reml n o.file o.svg o.start o.said
-
-abbrev pub with_picture : Options → ℕ → Options
-with_picture o i = options_of o.fault o.at o.prints 0 o.code o.effect o.effect_at o.place o.reml o.n_agq o.file i o.start o.said
-
-abbrev pub with_start : Options → ℕ → Options
-with_start o i = options_of o.fault o.at o.prints 0 o.code o.effect o.effect_at o.place o.reml o.n_agq o.file o.svg i o.said
+abbrev pub refused_at : Word → OptionFault → Result Asked OptionError
+refused_at word fault = Err (record { word = word; fault = fault })
 
 -- ---- words
 
--- a whole number of one or two digits; 100 or more for any other word
-unfoldable pub digit_of : ℕ → ℕ
-digit_of b = cond (ltb b 48) 100 (cond (ltb 57 b) 100 (b - 48))
+-- capitals and small letters alike
+abbrev pub is_flag : List ℕ → Flag → Bool
+is_flag word (Flag.Wants Wanted.Curve) = str_eq_ignore_ascii_case (codes "--curve") word
+is_flag word (Flag.Wants Wanted.Effect) = str_eq_ignore_ascii_case (codes "--effect") word
+is_flag word (Flag.Wants Wanted.Quadrature) = str_eq_ignore_ascii_case (codes "--quadrature") word
+is_flag word (Flag.Wants Wanted.Svg) = str_eq_ignore_ascii_case (codes "--svg") word
+is_flag word (Flag.Wants Wanted.Start) = str_eq_ignore_ascii_case (codes "--start") word
+is_flag word (Flag.Reml true) = str_eq_ignore_ascii_case (codes "--reml") word
+is_flag word (Flag.Reml false) = str_eq_ignore_ascii_case (codes "--ml") word
+is_flag word (Flag.Prints Page.Help) =
+    list_any (λ w. str_eq_ignore_ascii_case w word) (codes "--help" ∷ codes "-h" ∷ codes "help" ∷ [])
+is_flag word (Flag.Prints Page.Version) = str_eq_ignore_ascii_case (codes "--version") word
 
-unfoldable pub small_of : List ℕ → ℕ
-small_of word =
-    cond (eqb (length word) 1) (digit_of (get_or word 0 0))
-    (cond (eqb (length word) 2) (digit_of (get_or word 0 0) * 10 + digit_of (get_or word 1 0)) 100)
+-- the option that a word is
+unfoldable pub flag_of : List ℕ → Option Flag
+flag_of word =
+    find (is_flag word)
+    (Flag.Wants Wanted.Curve ∷ Flag.Wants Wanted.Effect ∷ Flag.Wants Wanted.Quadrature ∷ Flag.Wants Wanted.Svg ∷ Flag.Wants Wanted.Start
+    ∷ Flag.Reml true ∷ Flag.Reml false ∷ Flag.Prints Page.Help ∷ Flag.Prints Page.Version ∷ [])
+
+-- a whole number of one or two digits, at most 11
+abbrev pub up_to_11 : ℕ → Option ℕ
+up_to_11 n = cond (nat_le n 11) (Some n) None
+
+unfoldable pub order_of : List ℕ → Option ℕ
+order_of [] = None
+order_of (b ∷ []) = cond (is_ascii_digit b) (up_to_11 (b - 48)) None
+order_of (a ∷ b ∷ []) = cond (is_ascii_digit a && is_ascii_digit b) (up_to_11 ((a - 48) * 10 + (b - 48))) None
+order_of (a ∷ b ∷ c ∷ w) = None
 
 -- a name before .svg
 unfoldable pub ends_in_svg : List ℕ → Bool
-ends_in_svg word = cond (ltb (length word) 5) false (eqb (number_of (bytes "\n.svg\n") (drop (length word - 4) word)) 1)
+ends_in_svg word = nat_lt 4 (length word) && str_eq_ignore_ascii_case (codes ".svg") (drop (length word - 4) word)
 
--- the option that a word is: 1 to 5 await a word, 6 reml, 7 ml, 8 to 10 help, 11 version; 0 is another word
-abbrev pub option_of : List ℕ → ℕ
-option_of =
-    number_of (bytes "\n--curve\n--effect\n--quadrature\n--svg\n--start\n--reml\n--ml\n--help\n-h\nhelp\n--version\n")
+-- ---- one word more
 
--- where an option is kept that may be said once: at its number, both methods at 6, and 0 for what may be said again
-unfoldable pub slot_of : ℕ → ℕ
-slot_of option = cond (ltb option 6) option (cond (ltb option 8) 6 0)
+-- whether an option was said, of those that may be said once; the two methods are one
+abbrev pub said_in : Asked → Flag → Bool
+said_in o (Flag.Wants Wanted.Curve) = is_some o.curve
+said_in o (Flag.Wants Wanted.Effect) = is_some o.effect
+said_in o (Flag.Wants Wanted.Quadrature) = is_some o.n_agq
+said_in o (Flag.Wants Wanted.Svg) = is_some o.svg
+said_in o (Flag.Wants Wanted.Start) = is_some o.start
+said_in o (Flag.Reml reml) = is_some o.reml
+said_in o (Flag.Prints page) = false
 
--- ---- one word more, the i-th
+-- the word that an option wants
+abbrev pub with_curve : Asked → Word → Option Curve → Result Asked OptionError
+with_curve o word (Some curve) = Ok (record o { awaits = None; curve = Some curve })
+with_curve o word None = refused_at word OptionFault.NoSuchCurve
 
-unfoldable pub awaited_of : Options → List ℕ → ℕ → Options
-awaited_of o word i =
-    let curve = with_curve o (curve_of word) in
-    let effect = with_effect o (name_of word) i in
-    let order = with_order o (small_of word) in
-    let picture = with_picture o i in
-    cond (eqb o.awaits 1) (cond (eqb (curve_of word) 0) (faulty_at curve 3 i) curve)
-    (cond (eqb o.awaits 2) (cond (eqb (name_of word) 0) (faulty_at effect 4 i) effect)
-    (cond (eqb o.awaits 3) (cond (ltb 11 (small_of word)) (faulty_at order 6 i) order)
-    (cond (eqb o.awaits 5) (with_start o i)
-    (cond (ends_in_svg word) picture (faulty_at picture 8 i)))))
+abbrev pub with_order : Asked → Word → Option ℕ → Result Asked OptionError
+with_order o word (Some n) = Ok (record o { awaits = None; n_agq = Some n })
+with_order o word None = refused_at word OptionFault.NotAnOrder
+
+unfoldable pub awaited_of : Asked → Wanted → Word → Result Asked OptionError
+awaited_of o Wanted.Curve word = with_curve o word (curve_named word.now)
+awaited_of o Wanted.Effect word = cond (is_name word.now) (Ok (record o { awaits = None; effect = Some word })) (refused_at word OptionFault.NoSuchValue)
+awaited_of o Wanted.Quadrature word = with_order o word (order_of word.now)
+awaited_of o Wanted.Svg word = cond (ends_in_svg word.now) (Ok (record o { awaits = None; svg = Some word })) (refused_at word OptionFault.NotSvg)
+awaited_of o Wanted.Start word = Ok (record o { awaits = None; start = Some word })
 
 -- the file's name: not empty, without a `-` before it, and the only one
-unfoldable pub file_of : Options → List ℕ → ℕ → Options
-file_of o word i =
-    cond (eqb (length word) 0) (faulty_at o 1 i)
-    (cond (eqb (get_or word 0 0) 45) (faulty_at o 1 i)
-    (cond (eqb o.file 0) (with_file o i) (faulty_at o 7 i)))
+unfoldable pub file_of : Asked → Word → Result Asked OptionError
+file_of o word =
+    cond (length word.now == 0 || slice_index word.now 0 == 45) (refused_at word OptionFault.NoSuchOption)
+    (cond (is_some o.file) (refused_at word OptionFault.SecondFile) (Ok (record o { file = Some word })))
 
-unfoldable pub option_from : ℕ → Options → List ℕ → ℕ → Options
-option_from n o word i =
-    cond (eqb n 0) (file_of o word i)
-    (cond (ltb n 6) (awaiting o n i)
-    (cond (ltb n 8) (with_reml o (eqb n 6)) (printing o (cond (ltb n 11) 1 2))))
+abbrev pub with_flag : Asked → Flag → Word → Asked
+with_flag o (Flag.Wants wanted) word = record o { awaits = Some (wanted, word) }
+with_flag o (Flag.Reml reml) word = record o { reml = Some reml }
+with_flag o (Flag.Prints page) word = record o { page = Some page }
 
--- after a fault nothing changes; 9: said before, or the contrary
-unfoldable pub next_of : Options → List ℕ → ℕ → Options
-next_of o word i =
-    let n = option_of word in
-    cond (eqb o.fault 0)
-    (cond (eqb o.awaits 0)
-    (cond (not (eqb (slot_of n) 0) && get_or o.said (slot_of n) false) (faulty_at o 9 i) (option_from n (saying o (slot_of n)) word i))
-    (awaited_of o word i))
-    o
+-- a word that is an option; it was said before, or the contrary
+unfoldable pub flag_from : Asked → Flag → Word → Result Asked OptionError
+flag_from o flag word = cond (said_in o flag) (refused_at word OptionFault.SaidBefore) (Ok (with_flag o flag word))
+
+abbrev pub flag_or_file : Asked → Word → Option Flag → Result Asked OptionError
+flag_or_file o word (Some flag) = flag_from o flag word
+flag_or_file o word None = file_of o word
+
+abbrev pub next_from : Asked → Word → Option (Wanted × Word) → Result Asked OptionError
+next_from o word (Some w) = awaited_of o w.0 word
+next_from o word None = flag_or_file o word (flag_of word.now)
+
+unfoldable pub next_of : Asked → Word → Result Asked OptionError
+next_of o word = next_from o word o.awaits
 
 -- ---- after the last word: an option whose word is missing, or an effect that is not a value of the curve
 
-unfoldable pub last_of : Options → Options
-last_of o =
-    let p = place_of o.code o.effect in
-    cond (eqb o.fault 0)
-    (cond (eqb o.awaits 0)
-    (cond (eqb o.effect 0) (with_place o 0) (cond (ltb p 4) (with_place o p) (faulty_at (with_place o p) 5 o.effect_at)))
-    (faulty_at o 2 o.at))
-    o
+abbrev pub place_from : Word → Option ℕ → Result ℕ OptionError
+place_from word (Some place) = Ok place
+place_from word None = Err (record { word = word; fault = OptionFault.NotOfTheCurve })
+
+abbrev pub place_at : Curve → Option Word → Result ℕ OptionError
+place_at curve None = Ok 0
+place_at curve (Some word) = place_from word (place_of (code_of curve) word.now)
+
+unfoldable pub place_in : Asked → Curve → Result ℕ OptionError
+place_in o curve = place_at curve o.effect
+
+-- SSlogis, maximum likelihood and no quadrature, if nothing else is said; help and version answer whatever else is asked
+abbrev pub fits_at : Asked → Curve → ℕ → Command
+fits_at o curve place =
+    Command.Fits
+    (record {
+      settings = record { curve = curve; place = place; reml = unwrap_or o.reml false; n_agq = unwrap_or o.n_agq 1; given = is_some o.start };
+      file = o.file;
+      svg = o.svg;
+      start = o.start;
+    })
+
+abbrev pub page_or_fit : Asked → Curve → ℕ → Option Page → Command
+page_or_fit o curve place (Some page) = Command.Prints page
+page_or_fit o curve place None = fits_at o curve place
+
+abbrev pub command_of : Asked → Curve → Result ℕ OptionError → Result Command OptionError
+command_of o curve (Ok place) = Ok (page_or_fit o curve place o.page)
+command_of o curve (Err e) = Err e
+
+abbrev pub last_from : Asked → Option (Wanted × Word) → Result Command OptionError
+last_from o (Some w) = Err (record { word = w.1; fault = OptionFault.WordMissing })
+last_from o None = let curve = unwrap_or o.curve Curve.Sslogis in command_of o curve (place_in o curve)
+
+unfoldable pub last_of : Asked → Result Command OptionError
+last_of o = last_from o o.awaits
 
 -- ---- a fault in words
 
-unfoldable pub option_fault : ℕ → List ℕ
-option_fault number =
-    word_of number
-    (bytes
-    "\nno such option; 'refit help' tells them\nthis option wants a word after it; 'refit help' tells which\nno such curve; there are SSlogis, SSasymp, SSmicmen and SSfpl\nno curve has a value of this name; 'refit help' tells the names\nthe effect is not a value of the curve; 'refit help' tells the names\nthe order of quadrature is a whole number from 0 to 11\na second file; one file is read at a time\nthe picture's name must end in .svg\nthis option was given before, or one that contradicts it\n--start wants as many numbers as the curve has values, with commas between them and points for decimals, as in 200,725,350\n")
+unfoldable pub option_fault : OptionFault → List ℕ
+option_fault OptionFault.NoSuchOption = codes "no such option; 'refit help' tells them"
+option_fault OptionFault.WordMissing = codes "this option wants a word after it; 'refit help' tells which"
+option_fault OptionFault.NoSuchCurve = codes "no such curve; there are SSlogis, SSasymp, SSmicmen and SSfpl"
+option_fault OptionFault.NoSuchValue = codes "no curve has a value of this name; 'refit help' tells the names"
+option_fault OptionFault.NotOfTheCurve = codes "the effect is not a value of the curve; 'refit help' tells the names"
+option_fault OptionFault.NotAnOrder = codes "the order of quadrature is a whole number from 0 to 11"
+option_fault OptionFault.SecondFile = codes "a second file; one file is read at a time"
+option_fault OptionFault.NotSvg = codes "the picture's name must end in .svg"
+option_fault OptionFault.SaidBefore = codes "this option was given before, or one that contradicts it"
+option_fault OptionFault.WrongStarts =
+    codes "--start wants as many numbers as the curve has values, with commas between them and points for decimals, as in 200,725,350"

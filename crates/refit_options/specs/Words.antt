@@ -1,56 +1,82 @@
--- Names and meanings in words. The values of the curves have the names that R's users know, each with a number here.
-use Rattle.std.specs.Prelude.{ℕ, Bool, cond, List, [], ◌∷◌, ◌++◌, eqb, get_or}
-use Rattle.text_buffer.specs.Text.{bytes, whole_text}
-use Rattle.text_lines.specs.Lines.{word_of, number_of}
+-- Names and meanings in words. The values of the curves have the names that R's users know.
+use Rattle.std.specs.Prelude.{ℕ, Bool, cond, List, [], ◌∷◌, ◌++◌, ◌==◌, find, position, slice_index_or, codes, Option, Some, None}
+use Rattle.std.specs.List.{list_any}
+use Rattle.std.specs.Str.{str_eq_ignore_ascii_case}
+use Rattle.text_buffer.specs.Text.{whole_text}
+use Rattle.curves.specs.declared.mean_fn.Curve.{Curve}
+use Rattle.refusal.specs.declared.Refusal.{Refusal}
+use Rattle.read_table.specs.declared.fault.TableFault.{TableFault}
 
--- the number of a value's name; 0 for any other word
-abbrev pub name_of : List ℕ → ℕ
-name_of = number_of (bytes "\nAsym\nxmid\nscal\nR0\nlrc\nVm\nK\nA\nB\n")
+-- a word names a value of some curve, in capitals or small letters
+unfoldable pub is_name : List ℕ → Bool
+is_name word =
+    list_any (λ name. str_eq_ignore_ascii_case name word)
+    (codes "Asym" ∷ codes "xmid" ∷ codes "scal" ∷ codes "R0" ∷ codes "lrc" ∷ codes "Vm" ∷ codes "K" ∷ codes "A" ∷ codes "B" ∷ [])
 
--- the code of a curve's name; 0 for any other word
-abbrev pub curve_of : List ℕ → ℕ
-curve_of = number_of (bytes "\nSSlogis\nSSasymp\nSSmicmen\nSSfpl\n")
-
--- the numbers of the names of a curve's values; 0 is none
-unfoldable pub names_of : ℕ → List ℕ
+-- the names of a curve's values
+unfoldable pub names_of : ℕ → List (List ℕ)
 names_of code =
-    cond (eqb code 1) (1 ∷ 2 ∷ 3 ∷ 0 ∷ [])
-    (cond (eqb code 2) (1 ∷ 4 ∷ 5 ∷ 0 ∷ [])
-    (cond (eqb code 3) (6 ∷ 7 ∷ 0 ∷ 0 ∷ [])
-    (cond (eqb code 4) (8 ∷ 9 ∷ 2 ∷ 3 ∷ []) [])))
+    cond (code == 1) (codes "Asym" ∷ codes "xmid" ∷ codes "scal" ∷ [])
+    (cond (code == 2) (codes "Asym" ∷ codes "R0" ∷ codes "lrc" ∷ [])
+    (cond (code == 3) (codes "Vm" ∷ codes "K" ∷ [])
+    (cond (code == 4) (codes "A" ∷ codes "B" ∷ codes "xmid" ∷ codes "scal" ∷ []) [])))
 
--- the place among a curve's values of the first with this name; 4 where it has none
-unfoldable pub place_of : ℕ → ℕ → ℕ
-place_of code n =
-    let is : ℕ → Bool = λ i. eqb (get_or (names_of code) i 0) n in
-    cond (is 0) 0 (cond (is 1) 1 (cond (is 2) 2 (cond (is 3) 3 4)))
+-- the place of a name among those of a curve's values
+unfoldable pub place_of : ℕ → List ℕ → Option ℕ
+place_of code word = position (λ name. str_eq_ignore_ascii_case name word) (names_of code)
+
+-- a word is a curve's name
+abbrev pub is_curve : List ℕ → Curve → Bool
+is_curve word Curve.Sslogis = str_eq_ignore_ascii_case (codes "SSlogis") word
+is_curve word Curve.Ssasymp = str_eq_ignore_ascii_case (codes "SSasymp") word
+is_curve word Curve.Ssmicmen = str_eq_ignore_ascii_case (codes "SSmicmen") word
+is_curve word Curve.Ssfpl = str_eq_ignore_ascii_case (codes "SSfpl") word
+
+unfoldable pub curve_named : List ℕ → Option Curve
+curve_named word = find (is_curve word) (Curve.Sslogis ∷ Curve.Ssasymp ∷ Curve.Ssmicmen ∷ Curve.Ssfpl ∷ [])
 
 -- the name of value i of a curve
 unfoldable pub name_text : ℕ → ℕ → List ℕ
-name_text code i = word_of (get_or (names_of code) i 0) (bytes "?\nAsym\nxmid\nscal\nR0\nlrc\nVm\nK\nA\nB\n")
+name_text code i = slice_index_or (names_of code) i (codes "?")
 
 -- a curve's name and its equation
 unfoldable pub curve_text : ℕ → List ℕ
 curve_text code =
-    word_of code
-    (bytes
-    "\nSSlogis: grams = Asym / (1 + exp((xmid - dose) / scal))\nSSasymp: grams = Asym + (R0 - Asym) * exp(-exp(lrc) * dose)\nSSmicmen: grams = Vm * dose / (K + dose)\nSSfpl: grams = A + (B - A) / (1 + exp((xmid - dose) / scal))\n")
+    cond (code == 1) (codes "SSlogis: grams = Asym / (1 + exp((xmid - dose) / scal))")
+    (cond (code == 2) (codes "SSasymp: grams = Asym + (R0 - Asym) * exp(-exp(lrc) * dose)")
+    (cond (code == 3) (codes "SSmicmen: grams = Vm * dose / (K + dose)")
+    (cond (code == 4) (codes "SSfpl: grams = A + (B - A) / (1 + exp((xmid - dose) / scal))") [])))
 
--- what a number means by which the library refuses
-unfoldable pub refusal_text : ℕ → List ℕ
-refusal_text number =
-    word_of number
-    (bytes
-    "\nno such curve\nno readings, more than 512, or lists of unequal lengths\nno canisters or more than 32\na reading of a canister that is not there\nthe effect is not a value of the curve\na list of starts, bounds or theta has a wrong length\na reading, a start value or theta is not a finite number, or a bound is none\na lower bound above its upper one\na list for the answer has a wrong length\ntoo many rounds or narrowings, or two effects\n")
+-- what it means that the library refuses
+unfoldable pub refusal_text : Refusal → List ℕ
+refusal_text Refusal.Code = codes "no such curve"
+refusal_text Refusal.Readings = codes "no readings, more than 512, or lists of unequal lengths"
+refusal_text Refusal.Groups = codes "no canisters or more than 32"
+refusal_text Refusal.Group = codes "a reading of a canister that is not there"
+refusal_text Refusal.Effects = codes "the effect is not a value of the curve"
+refusal_text Refusal.Lengths = codes "a list of starts, bounds or theta has a wrong length"
+refusal_text Refusal.Numbers = codes "a reading, a start value or theta is not a finite number, or a bound is none"
+refusal_text Refusal.Bounds = codes "a lower bound above its upper one"
+refusal_text Refusal.Outputs = codes "a list for the answer has a wrong length"
+refusal_text Refusal.Limits = codes "too many rounds or narrowings, or two effects"
 
 -- what is wrong with a line of the text
-unfoldable pub fault_text : ℕ → List ℕ
-fault_text number =
-    word_of number
-    (bytes
-    "\nnot three fields: dose, grams, canister (a comment has a line of its own)\nthe dose is not a decimal number\nthe grams are not a decimal number\na number of more than 15 significant digits\na number whose exponent is out of range\nthe canister's name is empty, longer than 32 bytes, or has a sign that is no letter, digit, '-', '.' or '_'\nmore than 512 readings\nmore than 32 canisters\nthere are no readings\na decimal comma, or a comma beside another separator: write decimals with a point, and one separator in a line\nthe header names its columns in another order than dose, grams, canister\n")
+unfoldable pub fault_text : TableFault → List ℕ
+fault_text TableFault.NotThreeFields = codes "not three fields: dose, grams, canister (a comment has a line of its own)"
+fault_text TableFault.DoseNotADecimal = codes "the dose is not a decimal number"
+fault_text TableFault.GramsNotADecimal = codes "the grams are not a decimal number"
+fault_text TableFault.TooManyDigits = codes "a number of more than 15 significant digits"
+fault_text TableFault.PowerOutOfRange = codes "a number whose exponent is out of range"
+fault_text TableFault.NotAName =
+    codes "the canister's name is empty, longer than 32 bytes, or has a sign that is no letter, digit, '-', '.' or '_'"
+fault_text TableFault.TooManyReadings = codes "more than 512 readings"
+fault_text TableFault.TooManyCanisters = codes "more than 32 canisters"
+fault_text TableFault.NoReadings = codes "there are no readings"
+fault_text TableFault.DecimalComma =
+    codes "a decimal comma, or a comma beside another separator: write decimals with a point, and one separator in a line"
+fault_text TableFault.HeaderOutOfOrder = codes "the header names its columns in another order than dose, grams, canister"
 
--- the same with the line's number; line 0 is none
-unfoldable pub line_fault_text : ℕ → ℕ → List ℕ
-line_fault_text line number =
-    cond (eqb line 0) (fault_text number) (bytes "line " ++ (whole_text line ++ (bytes ": " ++ fault_text number)))
+-- the same with the line's number, where it is known
+unfoldable pub line_fault_text : Option ℕ → TableFault → List ℕ
+line_fault_text None fault = fault_text fault
+line_fault_text (Some line) fault = codes "line " ++ (whole_text line ++ (codes ": " ++ fault_text fault))

@@ -1,255 +1,353 @@
 // The words of the command line, one after the other.
-ghost use Rattle.std.specs.Prelude.{◌≡◌, false, ◌&&◌, not, ◌≤◌, ◌<◌, eqb, get_or};
+ghost use Rattle.std.specs.Prelude.{◌≡◌};
 ghost use Rattle.text_buffer.specs.Text.{wrote};
-ghost use Rattle.refit_options.specs.Options.{nothing_asked, faulty_at, digit_of, small_of, ends_in_svg, awaited_of, option_of, slot_of, saying, file_of, option_from, next_of, last_of, option_fault};
+ghost use Rattle.refit_options.specs.Options.{refused_at, is_flag, flag_of, order_of, ends_in_svg, nothing_asked, said_in, awaited_of, file_of, flag_from, next_of, place_in, last_of, option_fault};
 
-use crate::words::{curve_of, name_of, place_of};
-use text_buffer::Place;
-use text_lines::words::{number_of, word};
+use crate::words::{curve_named, is_name, place_of};
+use curves::Curve;
+use text_buffer::Text;
+use text_lines::same::{is_among, same_word};
 
-// What is asked for. `prints` is 1 for the help and 2 for the version. `awaits` is the option whose word comes next: 1 curve,
-// 2 effect, 3 quadrature, 4 svg, 5 start; `said` tells those that were said, and the method at 6. The file, the picture and
-// the start values are numbers of words; 0 is none. `fault` is 0, or the fault of word `at`.
+// Why a word is refused.
+#[derive(Clone, Copy, Debug, PartialEq, Eq)]
+pub enum OptionFault {
+    NoSuchOption,
+    WordMissing,
+    NoSuchCurve,
+    NoSuchValue,
+    NotOfTheCurve,
+    NotAnOrder,
+    SecondFile,
+    NotSvg,
+    SaidBefore,
+    WrongStarts,
+}
+
 #[derive(Clone, Copy)]
-pub struct Options {
-    pub fault: u64,
-    pub at: usize,
-    pub prints: u64,
-    pub awaits: u64,
-    pub code: u64,
-    pub effect: u64,
-    pub effect_at: usize,
+pub struct OptionError<'a> {
+    pub word: &'a [u8],
+    pub fault: OptionFault,
+}
+
+// What an option wants in the word after it.
+#[derive(Clone, Copy, Debug, PartialEq, Eq)]
+pub enum Wanted {
+    Curve,
+    Effect,
+    Quadrature,
+    Svg,
+    Start,
+}
+
+#[derive(Clone, Copy, Debug, PartialEq, Eq)]
+pub enum Page {
+    Help,
+    Version,
+}
+
+// The options: one that wants a word, restricted or plain maximum likelihood, and one that asks for a page.
+#[derive(Clone, Copy, Debug, PartialEq, Eq)]
+pub enum Flag {
+    Wants(Wanted),
+    Reml(bool),
+    Prints(Page),
+}
+
+const FLAGS: [Flag; 9] = [
+    Flag::Wants(Wanted::Curve),
+    Flag::Wants(Wanted::Effect),
+    Flag::Wants(Wanted::Quadrature),
+    Flag::Wants(Wanted::Svg),
+    Flag::Wants(Wanted::Start),
+    Flag::Reml(true),
+    Flag::Reml(false),
+    Flag::Prints(Page::Help),
+    Flag::Prints(Page::Version),
+];
+
+// How the readings are fitted: the curve, the place of the effect among its values, restricted or plain maximum likelihood,
+// the order of quadrature, and whether start values are given by hand.
+#[derive(Clone, Copy)]
+pub struct Settings {
+    pub curve: Curve,
     pub place: usize,
     pub reml: bool,
     pub n_agq: u64,
-    pub file: usize,
-    pub svg: usize,
-    pub start: usize,
-    pub said: [bool; 8],
+    pub given: bool,
 }
 
-pub fn none() -> Options
-    ensures { result ≡ nothing_asked }
+// A fit of the readings of a file, or of the example; the picture's name, and start values by hand.
+#[derive(Clone, Copy)]
+pub struct Fit<'a> {
+    pub settings: Settings,
+    pub file: Option<&'a [u8]>,
+    pub svg: Option<&'a [u8]>,
+    pub start: Option<&'a [u8]>,
+}
+
+#[derive(Clone, Copy)]
+pub enum Command<'a> {
+    Prints(Page),
+    Fits(Fit<'a>),
+}
+
+// What the words so far ask for. `awaits`: the last one is an option that wants a word.
+#[derive(Clone, Copy)]
+pub struct Asked<'a> {
+    pub awaits: Option<(Wanted, &'a [u8])>,
+    pub page: Option<Page>,
+    pub curve: Option<Curve>,
+    pub effect: Option<&'a [u8]>,
+    pub reml: Option<bool>,
+    pub n_agq: Option<u64>,
+    pub file: Option<&'a [u8]>,
+    pub svg: Option<&'a [u8]>,
+    pub start: Option<&'a [u8]>,
+}
+
+fn refused<'a>(word: &'a [u8], fault: OptionFault) -> Result<Asked<'a>, OptionError<'a>>
+    ensures { result ≡ refused_at word.entry fault }
 {
-    Options {
-        fault: 0,
-        at: 0,
-        prints: 0,
-        awaits: 0,
-        code: 1,
-        effect: 0,
-        effect_at: 0,
-        place: 0,
-        reml: false,
-        n_agq: 1,
-        file: 0,
-        svg: 0,
-        start: 0,
-        said: [false; 8],
+    Err(OptionError { word, fault })
+}
+
+fn is_flag(flag: Flag, word: &[u8]) -> bool
+    ensures { result ≡ is_flag word.now flag }
+{
+    match flag {
+        Flag::Wants(Wanted::Curve) => same_word(b"--curve", word),
+        Flag::Wants(Wanted::Effect) => same_word(b"--effect", word),
+        Flag::Wants(Wanted::Quadrature) => same_word(b"--quadrature", word),
+        Flag::Wants(Wanted::Svg) => same_word(b"--svg", word),
+        Flag::Wants(Wanted::Start) => same_word(b"--start", word),
+        Flag::Reml(true) => same_word(b"--reml", word),
+        Flag::Reml(false) => same_word(b"--ml", word),
+        Flag::Prints(Page::Help) => is_among(&[b"--help", b"-h", b"help"], word),
+        Flag::Prints(Page::Version) => same_word(b"--version", word),
     }
 }
 
-fn faulty(mut o: Options, fault: u64, at: usize) -> Options
-    ensures { result ≡ faulty_at o fault at }
+// The option that a word is.
+#[tactic(auto, unfolding(crate::specs::Options::flag_of))]
+fn flag_of(word: &[u8]) -> Option<Flag>
+    ensures { result ≡ flag_of word.now }
 {
-    o.fault = fault;
-    o.at = at;
-    o
+    FLAGS.iter().copied().find(|flag| is_flag(*flag, word))
 }
 
-fn digit(b: u8) -> u64
-    ensures { (result ≡ digit_of b) × (result ≤ 100) }
+// An order of quadrature: a whole number of one or two digits, at most 11.
+#[tactic(auto, unfolding(crate::specs::Options::order_of))]
+fn order_of(word: &[u8]) -> Option<u64>
+    ensures { result ≡ order_of word.now }
 {
-    if b < 48 {
-        return 100;
-    }
-    if b > 57 { 100 } else { (b - 48) as u64 }
+    let n = match word {
+        [b] if b.is_ascii_digit() => u64::from(*b - b'0'),
+        [a, b] if a.is_ascii_digit() && b.is_ascii_digit() => {
+            u64::from(*a - b'0') * 10 + u64::from(*b - b'0')
+        }
+        _ => return None,
+    };
+    if n <= 11 { Some(n) } else { None }
 }
 
-// A whole number of one or two digits; 100 or more for any other word.
-fn small(word: &[u8]) -> u64
-    ensures { result ≡ small_of word.now }
-{
-    if word.len() == 1 {
-        return digit(word[0]);
-    }
-    if word.len() == 2 {
-        return digit(word[0]) * 10 + digit(word[1]);
-    }
-    100
-}
-
+// A name before .svg.
+#[tactic(auto, unfolding(crate::specs::Options::ends_in_svg))]
 fn ends_in_svg(word: &[u8]) -> bool
     ensures { result ≡ ends_in_svg word.now }
 {
-    let n = word.len();
-    if n < 5 {
-        return false;
-    }
-    number_of(b"\n.svg\n", &word[n - 4..]) == 1
+    word.len() > 4 && same_word(b".svg", &word[word.len() - 4..])
 }
 
-// The word that an option awaits.
-fn awaited(mut o: Options, word: &[u8], i: usize) -> Options
-    ensures { result ≡ awaited_of o word.now i }
-{
-    let option = o.awaits;
-    o.awaits = 0;
-    if option == 1 {
-        o.code = curve_of(word);
-        if o.code == 0 {
-            return faulty(o, 3, i);
+impl<'a> Asked<'a> {
+    pub fn nothing() -> Asked<'a>
+        ensures { result ≡ nothing_asked }
+    {
+        Asked {
+            awaits: None,
+            page: None,
+            curve: None,
+            effect: None,
+            reml: None,
+            n_agq: None,
+            file: None,
+            svg: None,
+            start: None,
         }
-        return o;
     }
-    if option == 2 {
-        o.effect = name_of(word);
-        o.effect_at = i;
-        if o.effect == 0 {
-            return faulty(o, 4, i);
+
+    // Whether an option was said, of those that may be said once; the two methods are one.
+    fn said(self, flag: Flag) -> bool
+        ensures { result ≡ said_in self.entry flag }
+    {
+        match flag {
+            Flag::Wants(Wanted::Curve) => self.curve.is_some(),
+            Flag::Wants(Wanted::Effect) => self.effect.is_some(),
+            Flag::Wants(Wanted::Quadrature) => self.n_agq.is_some(),
+            Flag::Wants(Wanted::Svg) => self.svg.is_some(),
+            Flag::Wants(Wanted::Start) => self.start.is_some(),
+            Flag::Reml(_) => self.reml.is_some(),
+            Flag::Prints(_) => false,
         }
-        return o;
     }
-    if option == 3 {
-        o.n_agq = small(word);
-        if o.n_agq > 11 {
-            return faulty(o, 6, i);
+
+    // The word that an option wants.
+    #[tactic(auto, unfolding(crate::specs::Options::awaited_of))]
+    fn awaited(mut self, wanted: Wanted, word: &'a [u8]) -> Result<Asked<'a>, OptionError<'a>>
+        ensures { result ≡ awaited_of self.entry wanted word.entry }
+    {
+        self.awaits = None;
+        match wanted {
+            Wanted::Curve => {
+                self.curve = curve_named(word);
+                if self.curve.is_none() {
+                    return refused(word, OptionFault::NoSuchCurve);
+                }
+            }
+            Wanted::Effect => {
+                if !is_name(word) {
+                    return refused(word, OptionFault::NoSuchValue);
+                }
+                self.effect = Some(word);
+            }
+            Wanted::Quadrature => {
+                self.n_agq = order_of(word);
+                if self.n_agq.is_none() {
+                    return refused(word, OptionFault::NotAnOrder);
+                }
+            }
+            Wanted::Svg => {
+                if !ends_in_svg(word) {
+                    return refused(word, OptionFault::NotSvg);
+                }
+                self.svg = Some(word);
+            }
+            Wanted::Start => self.start = Some(word),
         }
-        return o;
+        Ok(self)
     }
-    if option == 5 {
-        o.start = i;
-        return o;
+
+    // A word that is no option: the file's name.
+    #[tactic(auto, unfolding(crate::specs::Options::file_of))]
+    fn file(mut self, word: &'a [u8]) -> Result<Asked<'a>, OptionError<'a>>
+        ensures { result ≡ file_of self.entry word.entry }
+    {
+        if word.is_empty() || word[0] == b'-' {
+            return refused(word, OptionFault::NoSuchOption);
+        }
+        if self.file.is_some() {
+            return refused(word, OptionFault::SecondFile);
+        }
+        self.file = Some(word);
+        Ok(self)
     }
-    o.svg = i;
-    if ends_in_svg(word) {
-        return o;
+
+    // A word that is an option.
+    #[tactic(auto, unfolding(crate::specs::Options::flag_from))]
+    fn flag(mut self, flag: Flag, word: &'a [u8]) -> Result<Asked<'a>, OptionError<'a>>
+        ensures { result ≡ flag_from self.entry flag word.entry }
+    {
+        if self.said(flag) {
+            return refused(word, OptionFault::SaidBefore);
+        }
+        match flag {
+            Flag::Wants(wanted) => self.awaits = Some((wanted, word)),
+            Flag::Reml(reml) => self.reml = Some(reml),
+            Flag::Prints(page) => self.page = Some(page),
+        }
+        Ok(self)
     }
-    faulty(o, 8, i)
+
+    // One word more.
+    #[tactic(auto, unfolding(crate::specs::Options::next_of))]
+    pub fn next(self, word: &'a [u8]) -> Result<Asked<'a>, OptionError<'a>>
+        ensures { result ≡ next_of self.entry word.entry }
+    {
+        if let Some((wanted, _)) = self.awaits {
+            return self.awaited(wanted, word);
+        }
+        match flag_of(word) {
+            Some(flag) => self.flag(flag, word),
+            None => self.file(word),
+        }
+    }
+
+    // The place of the effect among the curve's values: the first if none was said.
+    #[tactic(auto, unfolding(crate::specs::Options::place_in))]
+    fn place(self, curve: Curve) -> Result<usize, OptionError<'a>>
+        ensures { result ≡ place_in self.entry curve }
+    {
+        let Some(word) = self.effect else {
+            return Ok(0);
+        };
+        place_of(curve, word).ok_or(OptionError {
+            word,
+            fault: OptionFault::NotOfTheCurve,
+        })
+    }
+
+    // After the last word.
+    #[tactic(auto, unfolding(crate::specs::Options::last_of))]
+    pub fn last(self) -> Result<Command<'a>, OptionError<'a>>
+        ensures { result ≡ last_of self.entry }
+    {
+        if let Some((_, word)) = self.awaits {
+            return Err(OptionError {
+                word,
+                fault: OptionFault::WordMissing,
+            });
+        }
+        let curve = self.curve.unwrap_or(Curve::Sslogis);
+        let place = self.place(curve)?;
+        if let Some(page) = self.page {
+            return Ok(Command::Prints(page));
+        }
+        let settings = Settings {
+            curve,
+            place,
+            reml: self.reml.unwrap_or(false),
+            n_agq: self.n_agq.unwrap_or(1),
+            given: self.start.is_some(),
+        };
+        Ok(Command::Fits(Fit {
+            settings,
+            file: self.file,
+            svg: self.svg,
+            start: self.start,
+        }))
+    }
 }
 
-// The option that a word is: 1 to 5 await a word, 6 reml, 7 ml, 8 to 10 help, 11 version, 0 another word.
-fn option_of(word: &[u8]) -> u64
-    ensures { result ≡ option_of word.now }
+#[tactic(auto, unfolding(crate::specs::Options::option_fault))]
+fn fault_words(fault: OptionFault) -> &'static [u8]
+    ensures { result.now ≡ option_fault fault }
 {
-    number_of(
-        b"\n--curve\n--effect\n--quadrature\n--svg\n--start\n--reml\n--ml\n--help\n-h\nhelp\n--version\n",
-        word,
-    )
-}
-
-// Where an option is kept that may be said once: at its number, both methods at 6, and 0 for what may be said again.
-fn slot(option: u64) -> usize
-    ensures { (result ≡ slot_of option) × (result < 8) }
-{
-    if option < 6 {
-        return option as usize;
+    match fault {
+        OptionFault::NoSuchOption => b"no such option; 'refit help' tells them",
+        OptionFault::WordMissing => {
+            b"this option wants a word after it; 'refit help' tells which"
+        }
+        OptionFault::NoSuchCurve => {
+            b"no such curve; there are SSlogis, SSasymp, SSmicmen and SSfpl"
+        }
+        OptionFault::NoSuchValue => {
+            b"no curve has a value of this name; 'refit help' tells the names"
+        }
+        OptionFault::NotOfTheCurve => {
+            b"the effect is not a value of the curve; 'refit help' tells the names"
+        }
+        OptionFault::NotAnOrder => b"the order of quadrature is a whole number from 0 to 11",
+        OptionFault::SecondFile => b"a second file; one file is read at a time",
+        OptionFault::NotSvg => b"the picture's name must end in .svg",
+        OptionFault::SaidBefore => { b"this option was given before, or one that contradicts it" }
+        OptionFault::WrongStarts => {
+            b"--start wants as many numbers as the curve has values, with commas between them and points for decimals, as in 200,725,350"
+        }
     }
-    if option < 8 { 6 } else { 0 }
-}
-
-fn said(o: Options, s: usize) -> bool
-    requires { s < 8 }
-    ensures { result ≡ (not (eqb s 0) && get_or o.said s false) }
-{
-    if s == 0 {
-        return false;
-    }
-    o.said[s]
-}
-
-fn say(mut o: Options, s: usize) -> Options
-    requires { s < 8 }
-    ensures { result ≡ saying o s }
-{
-    o.said[s] = true;
-    o
-}
-
-// A word that is no option: the file's name.
-fn file(mut o: Options, word: &[u8], i: usize) -> Options
-    ensures { result ≡ file_of o word.now i }
-{
-    if word.len() == 0 {
-        return faulty(o, 1, i);
-    }
-    if word[0] == 45 {
-        return faulty(o, 1, i);
-    }
-    if o.file != 0 {
-        return faulty(o, 7, i);
-    }
-    o.file = i;
-    o
-}
-
-// A word that is this option.
-fn option_from(option: u64, mut o: Options, word: &[u8], i: usize) -> Options
-    ensures { result ≡ option_from option o word.now i }
-{
-    if option == 0 {
-        return file(o, word, i);
-    }
-    if option < 6 {
-        o.awaits = option;
-        o.at = i;
-        return o;
-    }
-    if option < 8 {
-        o.reml = option == 6;
-        return o;
-    }
-    o.prints = if option < 11 { 1 } else { 2 };
-    o
-}
-
-// One word more, the i-th. An option is said once, and one method.
-pub fn next(o: Options, word: &[u8], i: usize) -> Options
-    ensures { result ≡ next_of o word.now i }
-{
-    if o.fault != 0 {
-        return o;
-    }
-    if o.awaits != 0 {
-        return awaited(o, word, i);
-    }
-    let option = option_of(word);
-    let s = slot(option);
-    if said(o, s) {
-        return faulty(o, 9, i);
-    }
-    option_from(option, say(o, s), word, i)
-}
-
-// After the last word.
-pub fn last(mut o: Options) -> Options
-    ensures { result ≡ last_of o }
-{
-    if o.fault != 0 {
-        return o;
-    }
-    if o.awaits != 0 {
-        return faulty(o, 2, o.at);
-    }
-    if o.effect == 0 {
-        o.place = 0;
-        return o;
-    }
-    o.place = place_of(o.code, o.effect);
-    if o.place >= 4 {
-        return faulty(o, 5, o.effect_at);
-    }
-    o
 }
 
 // A fault of the command line in words.
-pub fn fault(out: &mut [u8], p: Place, number: u64) -> Place
-    ensures { (out.new, result) ≡ wrote out.old p (option_fault number) }
+pub fn fault(out: &mut Text<'_>, fault: OptionFault)
+    ensures { out.new ≡ wrote out.old (option_fault fault) }
 {
-    word(
-        out,
-        p,
-        b"\nno such option; 'refit help' tells them\nthis option wants a word after it; 'refit help' tells which\nno such curve; there are SSlogis, SSasymp, SSmicmen and SSfpl\nno curve has a value of this name; 'refit help' tells the names\nthe effect is not a value of the curve; 'refit help' tells the names\nthe order of quadrature is a whole number from 0 to 11\na second file; one file is read at a time\nthe picture's name must end in .svg\nthis option was given before, or one that contradicts it\n--start wants as many numbers as the curve has values, with commas between them and points for decimals, as in 200,725,350\n",
-        number,
-    )
+    out.put(fault_words(fault));
 }

@@ -1,123 +1,169 @@
-// Names and meanings in words. The values of the curves have the names that R's users know, each with a number here.
-ghost use Rattle.std.specs.Prelude.{◌≡◌, [], ◌∷◌, get_or};
+// Names and meanings in words. The values of the curves have the names that R's users know.
+ghost use Rattle.std.specs.Prelude.{◌≡◌, map};
+ghost use Rattle.curves.specs.MeanFn.{code_of};
 ghost use Rattle.text_buffer.specs.Text.{wrote};
-ghost use Rattle.refit_options.specs.Words.{name_of, curve_of, names_of, place_of, name_text, curve_text, refusal_text, fault_text, line_fault_text};
+ghost use Rattle.refit_options.specs.Words.{is_name, names_of, place_of, is_curve, curve_named, name_text, curve_text, refusal_text, fault_text, line_fault_text};
 
-use text_buffer::{Place, put, whole};
-use text_lines::words::{number_of, word};
+use curves::Curve;
+use read_table::fault::TableFault;
+use refusal::Refusal;
+use text_buffer::Text;
+use text_lines::same::{find_word, is_among, same_word};
 
-// The number of a value's name: 1 Asym, 2 xmid, 3 scal, 4 R0, 5 lrc, 6 Vm, 7 K, 8 A, 9 B; 0 for any other word.
-pub fn name_of(word: &[u8]) -> u64
-    ensures { result ≡ name_of word.now }
+const CURVES: [Curve; 4] = [
+    Curve::Sslogis,
+    Curve::Ssasymp,
+    Curve::Ssmicmen,
+    Curve::Ssfpl,
+];
+
+// Whether a word names a value of some curve.
+#[tactic(auto, unfolding(crate::specs::Words::is_name))]
+pub fn is_name(word: &[u8]) -> bool
+    ensures { result ≡ is_name word.now }
 {
-    number_of(b"\nAsym\nxmid\nscal\nR0\nlrc\nVm\nK\nA\nB\n", word)
+    is_among(
+        &[
+            b"Asym", b"xmid", b"scal", b"R0", b"lrc", b"Vm", b"K", b"A", b"B",
+        ],
+        word,
+    )
 }
 
-// The number of the name of value i of a curve, 0 where it has no such value.
-pub fn value_name(code: u64, i: usize) -> u64
-    ensures { result ≡ get_or (names_of code) i 0 }
+// The names of a curve's values.
+#[tactic(auto, unfolding(crate::specs::Words::names_of))]
+fn names(curve: Curve) -> &'static [&'static [u8]]
+    ensures { map (λ w. w.now) result.now ≡ names_of (code_of curve) }
 {
-    match code {
-        1 => pick(i, 1, 2, 3, 0),
-        2 => pick(i, 1, 4, 5, 0),
-        3 => pick(i, 6, 7, 0, 0),
-        4 => pick(i, 8, 9, 2, 3),
-        _ => 0,
+    match curve {
+        Curve::Sslogis => &[b"Asym", b"xmid", b"scal"],
+        Curve::Ssasymp => &[b"Asym", b"R0", b"lrc"],
+        Curve::Ssmicmen => &[b"Vm", b"K"],
+        Curve::Ssfpl => &[b"A", b"B", b"xmid", b"scal"],
     }
 }
 
-fn pick(i: usize, a: u64, b: u64, c: u64, d: u64) -> u64
-    ensures { result ≡ get_or (a ∷ b ∷ c ∷ d ∷ []) i 0 }
+// The place of a name among those of a curve's values.
+#[tactic(auto, unfolding(crate::specs::Words::place_of))]
+pub fn place_of(curve: Curve, word: &[u8]) -> Option<usize>
+    ensures { result ≡ place_of (code_of curve) word.now }
 {
-    match i {
-        0 => a,
-        1 => b,
-        2 => c,
-        3 => d,
-        _ => 0,
+    find_word(names(curve), word)
+}
+
+fn is_curve(curve: Curve, word: &[u8]) -> bool
+    ensures { result ≡ is_curve word.now curve }
+{
+    match curve {
+        Curve::Sslogis => same_word(b"SSlogis", word),
+        Curve::Ssasymp => same_word(b"SSasymp", word),
+        Curve::Ssmicmen => same_word(b"SSmicmen", word),
+        Curve::Ssfpl => same_word(b"SSfpl", word),
     }
 }
 
-// The place among a curve's values of the first with this name; 4 where it has none.
-pub fn place_of(code: u64, number: u64) -> usize
-    ensures { result ≡ place_of code number }
+// The curve that a word names.
+#[tactic(auto, unfolding(crate::specs::Words::curve_named))]
+pub fn curve_named(word: &[u8]) -> Option<Curve>
+    ensures { result ≡ curve_named word.now }
 {
-    if value_name(code, 0) == number {
-        return 0;
-    }
-    if value_name(code, 1) == number {
-        return 1;
-    }
-    if value_name(code, 2) == number {
-        return 2;
-    }
-    if value_name(code, 3) == number { 3 } else { 4 }
-}
-
-// The code of a curve's name, 0 for any other word.
-pub fn curve_of(word: &[u8]) -> u64
-    ensures { result ≡ curve_of word.now }
-{
-    number_of(b"\nSSlogis\nSSasymp\nSSmicmen\nSSfpl\n", word)
+    CURVES.iter().copied().find(|curve| is_curve(*curve, word))
 }
 
 // The name of value i of a curve.
-pub fn name(out: &mut [u8], p: Place, code: u64, i: usize) -> Place
-    ensures { (out.new, result) ≡ wrote out.old p (name_text code i) }
+#[tactic(auto, unfolding(crate::specs::Words::name_text))]
+pub fn name(out: &mut Text<'_>, curve: Curve, i: usize)
+    ensures { out.new ≡ wrote out.old (name_text (code_of curve) i) }
 {
-    word(
-        out,
-        p,
-        b"?\nAsym\nxmid\nscal\nR0\nlrc\nVm\nK\nA\nB\n",
-        value_name(code, i),
-    )
+    out.put(names(curve).get(i).copied().unwrap_or(b"?"));
+}
+
+#[tactic(auto, unfolding(crate::specs::Words::curve_text))]
+fn curve_words(curve: Curve) -> &'static [u8]
+    ensures { result.now ≡ curve_text (code_of curve) }
+{
+    match curve {
+        Curve::Sslogis => b"SSlogis: grams = Asym / (1 + exp((xmid - dose) / scal))",
+        Curve::Ssasymp => b"SSasymp: grams = Asym + (R0 - Asym) * exp(-exp(lrc) * dose)",
+        Curve::Ssmicmen => b"SSmicmen: grams = Vm * dose / (K + dose)",
+        Curve::Ssfpl => b"SSfpl: grams = A + (B - A) / (1 + exp((xmid - dose) / scal))",
+    }
 }
 
 // A curve's name and its equation.
-pub fn curve(out: &mut [u8], p: Place, code: u64) -> Place
-    ensures { (out.new, result) ≡ wrote out.old p (curve_text code) }
+pub fn curve(out: &mut Text<'_>, curve: Curve)
+    ensures { out.new ≡ wrote out.old (curve_text (code_of curve)) }
 {
-    word(
-        out,
-        p,
-        b"\nSSlogis: grams = Asym / (1 + exp((xmid - dose) / scal))\nSSasymp: grams = Asym + (R0 - Asym) * exp(-exp(lrc) * dose)\nSSmicmen: grams = Vm * dose / (K + dose)\nSSfpl: grams = A + (B - A) / (1 + exp((xmid - dose) / scal))\n",
-        code,
-    )
+    out.put(curve_words(curve));
 }
 
-// What a number means by which the library refuses.
-pub fn refusal(out: &mut [u8], p: Place, number: u64) -> Place
-    ensures { (out.new, result) ≡ wrote out.old p (refusal_text number) }
+#[tactic(auto, unfolding(crate::specs::Words::refusal_text))]
+fn refusal_words(refusal: Refusal) -> &'static [u8]
+    ensures { result.now ≡ refusal_text refusal }
 {
-    word(
-        out,
-        p,
-        b"\nno such curve\nno readings, more than 512, or lists of unequal lengths\nno canisters or more than 32\na reading of a canister that is not there\nthe effect is not a value of the curve\na list of starts, bounds or theta has a wrong length\na reading, a start value or theta is not a finite number, or a bound is none\na lower bound above its upper one\na list for the answer has a wrong length\ntoo many rounds or narrowings, or two effects\n",
-        number,
-    )
+    match refusal {
+        Refusal::Code => b"no such curve",
+        Refusal::Readings => b"no readings, more than 512, or lists of unequal lengths",
+        Refusal::Groups => b"no canisters or more than 32",
+        Refusal::Group => b"a reading of a canister that is not there",
+        Refusal::Effects => b"the effect is not a value of the curve",
+        Refusal::Lengths => b"a list of starts, bounds or theta has a wrong length",
+        Refusal::Numbers => {
+            b"a reading, a start value or theta is not a finite number, or a bound is none"
+        }
+        Refusal::Bounds => b"a lower bound above its upper one",
+        Refusal::Outputs => b"a list for the answer has a wrong length",
+        Refusal::Limits => b"too many rounds or narrowings, or two effects",
+    }
+}
+
+// What it means that the library refuses.
+pub fn refusal(out: &mut Text<'_>, refusal: Refusal)
+    ensures { out.new ≡ wrote out.old (refusal_text refusal) }
+{
+    out.put(refusal_words(refusal));
 }
 
 // What is wrong with a line of the text.
-fn fault(out: &mut [u8], p: Place, number: u64) -> Place
-    ensures { (out.new, result) ≡ wrote out.old p (fault_text number) }
+#[tactic(auto, unfolding(crate::specs::Words::fault_text))]
+fn fault_words(fault: TableFault) -> &'static [u8]
+    ensures { result.now ≡ fault_text fault }
 {
-    word(
-        out,
-        p,
-        b"\nnot three fields: dose, grams, canister (a comment has a line of its own)\nthe dose is not a decimal number\nthe grams are not a decimal number\na number of more than 15 significant digits\na number whose exponent is out of range\nthe canister's name is empty, longer than 32 bytes, or has a sign that is no letter, digit, '-', '.' or '_'\nmore than 512 readings\nmore than 32 canisters\nthere are no readings\na decimal comma, or a comma beside another separator: write decimals with a point, and one separator in a line\nthe header names its columns in another order than dose, grams, canister\n",
-        number,
-    )
+    match fault {
+        TableFault::NotThreeFields => {
+            b"not three fields: dose, grams, canister (a comment has a line of its own)"
+        }
+        TableFault::DoseNotADecimal => b"the dose is not a decimal number",
+        TableFault::GramsNotADecimal => b"the grams are not a decimal number",
+        TableFault::TooManyDigits => b"a number of more than 15 significant digits",
+        TableFault::PowerOutOfRange => b"a number whose exponent is out of range",
+        TableFault::NotAName => {
+            b"the canister's name is empty, longer than 32 bytes, or has a sign that is no letter, digit, '-', '.' or '_'"
+        }
+        TableFault::TooManyReadings => b"more than 512 readings",
+        TableFault::TooManyCanisters => b"more than 32 canisters",
+        TableFault::NoReadings => b"there are no readings",
+        TableFault::DecimalComma => {
+            b"a decimal comma, or a comma beside another separator: write decimals with a point, and one separator in a line"
+        }
+        TableFault::HeaderOutOfOrder => {
+            b"the header names its columns in another order than dose, grams, canister"
+        }
+    }
 }
 
-// The fault of a line with its number; line 0 is none.
-pub fn line_fault(out: &mut [u8], p: Place, line: u64, number: u64) -> Place
-    ensures { (out.new, result) ≡ wrote out.old p (line_fault_text line number) }
+// The fault of a line with its number, where it is known.
+#[tactic(auto, using(text_buffer::specs::laws::Text::wrote_then), unfolding(crate::specs::Words::line_fault_text))]
+pub fn line_fault(out: &mut Text<'_>, line: Option<u64>, fault: TableFault)
+    ensures { out.new ≡ wrote out.old (line_fault_text line fault) }
 {
-    if line == 0 {
-        return fault(out, p, number);
+    match line {
+        Some(line) => {
+            out.put(b"line ");
+            out.whole(line);
+            out.put(b": ");
+            out.put(fault_words(fault));
+        }
+        None => out.put(fault_words(fault)),
     }
-    let p = put(out, p, b"line ");
-    let p = whole(out, p, line);
-    let p = put(out, p, b": ");
-    fault(out, p, number)
 }

@@ -1,5 +1,5 @@
 // Words, capitals and small letters alike.
-ghost use Rattle.std.specs.Prelude.{◌≡◌};
+ghost use Rattle.std.specs.Prelude.{◌≡◌, map, position};
 ghost use Rattle.std.specs.List.{list_any};
 ghost use Rattle.std.specs.Str.{str_eq_ignore_ascii_case};
 
@@ -13,4 +13,18 @@ pub fn is_among(words: &[&[u8]], word: &[u8]) -> bool
     ensures { result ≡ list_any (λ w. str_eq_ignore_ascii_case w.now word.now) words.now }
 {
     words.iter().any(|w| same_word(w, word))
+}
+
+fn place_among(words: &[&[u8]], word: &[u8]) -> Option<usize>
+    ensures { result ≡ position (λ w. str_eq_ignore_ascii_case w.now word.now) words.now }
+{
+    words.iter().position(|w| same_word(w, word))
+}
+
+// The place of the first of the words that is this one.
+#[tactic(auto, using(crate::proofs::Sought::position_of_map))]
+pub fn find_word(words: &[&[u8]], word: &[u8]) -> Option<usize>
+    ensures { result ≡ position (λ w. str_eq_ignore_ascii_case w word.now) (map (λ w. w.now) words.now) }
+{
+    place_among(words, word)
 }

@@ -1,13 +1,8 @@
--- The line where there is one, then the fault. Assumes nothing.
-use borrow.Author.Tests.{eq-eqb, ne_eqb}
-use Rattle.text_buffer.specs.laws.Text.{then}
+-- One text and then another is one text. Assumes nothing.
+use Rattle.text_buffer.specs.laws.Text.{wrote_then}
 use Rattle.refit_options.specs.Words.{line_fault_text}
 use Rattle.refit_options.proofs.words.line_fault.Goals as goal
 
-pub returns-then-line-eq0 : goal.returns-then-line-eq0
+pub returns-in-Some : goal.returns-in-Some
 unfolding line_fault_text
-returns-then-line-eq0 c = rw (eq-eqb _ _ c.if-line-eq0.true) c.fault.ensures
-
-pub returns : goal.returns
-unfolding line_fault_text
-returns c = rw (ne_eqb _ _ c.if-line-eq0.false) (then _ _ _ _ _ _ _ c.put-p.ensures (then _ _ _ _ _ _ _ c.whole-p.ensures (then _ _ _ _ _ _ _ c.put-p-2.ensures c.fault-2.ensures)))
+returns-in-Some c = rw (c.in-Some.is, wrote_then, wrote_then, wrote_then) cc
