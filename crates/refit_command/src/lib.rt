@@ -19,7 +19,8 @@ use text_buffer::{Span, Text};
 const LONGEST: usize = 65536;
 
 // R's data set Orange.
-const ORANGE: &[u8] = b"# R's data set Orange: the age in days (dose), the circumference in mm (grams), the tree (canister).\nage,circumference,tree\n118,30,1\n484,58,1\n664,87,1\n1004,115,1\n1231,120,1\n1372,142,1\n1582,145,1\n118,33,2\n484,69,2\n664,111,2\n1004,156,2\n1231,172,2\n1372,203,2\n1582,203,2\n118,30,3\n484,51,3\n664,75,3\n1004,108,3\n1231,115,3\n1372,139,3\n1582,140,3\n118,32,4\n484,62,4\n664,112,4\n1004,167,4\n1231,179,4\n1372,209,4\n1582,214,4\n118,30,5\n484,49,5\n664,81,5\n1004,125,5\n1231,142,5\n1372,174,5\n1582,177,5\n";
+const ORANGE: &[u8] =
+    b"# R's data set Orange: the age in days (dose), the circumference in mm (grams), the tree (canister).\nage,circumference,tree\n118,30,1\n484,58,1\n664,87,1\n1004,115,1\n1231,120,1\n1372,142,1\n1582,145,1\n118,33,2\n484,69,2\n664,111,2\n1004,156,2\n1231,172,2\n1372,203,2\n1582,203,2\n118,30,3\n484,51,3\n664,75,3\n1004,108,3\n1231,115,3\n1372,139,3\n1582,140,3\n118,32,4\n484,62,4\n664,112,4\n1004,167,4\n1231,179,4\n1372,209,4\n1582,214,4\n118,30,5\n484,49,5\n664,81,5\n1004,125,5\n1231,142,5\n1372,174,5\n1582,177,5\n";
 
 // Where readings come from: the name that faults are told with, and the text.
 #[derive(Clone, Copy)]
@@ -184,23 +185,12 @@ impl<'a, R: Files + AllocGlobal, O: Write, E: Write> Console<'a, R, O, E> {
         }
     }
 
-    fn from_text(
-        &mut self,
-        fit: Fit<'_>,
-        given: [f64; 4],
-        source: Source<'_>,
-    ) -> io::Result<()> {
+    fn from_text(&mut self, fit: Fit<'_>, given: [f64; 4], source: Source<'_>) -> io::Result<()> {
         let mut doses = [0.0; 512];
         let mut grams = [0.0; 512];
         let mut groups = [0; 512];
         let mut names = [Span { start: 0, stop: 0 }; 32];
-        match read_table::read_table(
-            source.text,
-            &mut doses,
-            &mut grams,
-            &mut groups,
-            &mut names,
-        ) {
+        match read_table::read_table(source.text, &mut doses, &mut grams, &mut groups, &mut names) {
             Err(e) => self.complain_of_line(source.name, Some(e.read.lines), e.fault),
             Ok(read) => {
                 let readings = Readings {
@@ -265,11 +255,12 @@ impl<'a, R: Files + AllocGlobal, O: Write, E: Write> Console<'a, R, O, E> {
 
 // What the words ask for, each of which ends with a 0.
 fn asked(words: &[u8]) -> Result<Command<'_>, OptionError<'_>> {
-    let mut asked = Asked::nothing();
-    for word in words.split_inclusive(|b| *b == 0) {
-        asked = asked.next(word.strip_suffix(&[0]).unwrap_or(word))?;
-    }
-    asked.last()
+    words
+        .split_inclusive(|b| *b == 0)
+        .try_fold(Asked::nothing(), |asked, word| {
+            asked.next(word.strip_suffix(&[0]).unwrap_or(word))
+        })?
+        .last()
 }
 
 // What is asked for goes to `out`, a fault to `err`.

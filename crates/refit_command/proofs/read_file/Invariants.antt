@@ -1,0 +1,9 @@
+-- Each read puts at least one byte after those that stand in the text, and no more than there is room for.
+use Rattle.std.proofs.Common.{length, ◌-◌, ◌≤◌, ◌≡◌}
+use Rattle.refit_command.proofs.read_file.Given as goal
+
+abbrev pub invariant-loop-done : goal.invariant-loop-done
+invariant-loop-done g l = (l.done ≤ length l.text) × (length l.text ≡ length l.initial.text)
+
+abbrev pub decreases-loop-done : goal.decreases-loop-done
+decreases-loop-done g l = length l.initial.text - l.done
