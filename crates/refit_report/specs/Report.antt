@@ -1,137 +1,185 @@
 -- The report: what was asked, the start values, theta, the fit, and then the tables.
-use Rattle.std.specs.Prelude.{ℕ, Bool, not, ◌&&◌, cond, List, [], ◌∷◌, ◌++◌, eqb, ltb, Float, length}
+use Rattle.std.specs.Prelude.{ℕ, Bool, false, cond, List, [], ◌∷◌, eqb, ltb, Float, length, is_some, Result, Ok, Err, codes}
 use Rattle.math.specs.Basic.{mul}
 use Rattle.math.specs.Sqrt.{sqrt_of}
-use Rattle.text_buffer.specs.Text.{bytes}
-use Rattle.text_lines.specs.Lines.{word_of, filled}
-use Rattle.refit_calculation.specs.declared.Answer.{Answer}
-use Rattle.refit_options.specs.declared.options.Options.{Options}
+use Rattle.refusal.specs.Refusal.{number_of}
+use Rattle.curves.specs.MeanFn.{code_of}
+use Rattle.text_buffer.specs.Text.{joined}
+use Rattle.text_lines.specs.Lines.{filled}
+use Rattle.svg_axes.specs.Subject.{Shown}
+use Rattle.refit_calculation.specs.declared.Refit.{Refit}
+use Rattle.refit_calculation.specs.declared.Refused.{Refused}
+use Rattle.refit_calculation.specs.declared.Step.{Step}
+use Rattle.refit_calculation.specs.declared.Step.TheVariants.{Start, Search, Fit}
+use Rattle.refit_options.specs.declared.options.Settings.{Settings}
 use Rattle.refit_options.specs.Words.{name_text, refusal_text}
 use Rattle.refit_options.specs.Words as Words
+use Rattle.refit_warnings.specs.Warnings.{Results}
 use Rattle.refit_warnings.specs.Told.{lines_text, first_of}
 use Rattle.refit_tables.specs.Tables.{canisters_text, readings_text}
 
 -- ---- what was asked
 
-unfoldable pub asked_text : ℕ → ℕ → ℕ → ℕ → List ℕ
-asked_text code place n groups =
-    filled (bytes "Refit\n  readings      %n, of %n canisters\n  curve         ") (n ∷ groups ∷ []) []
-    ++ (Words.curve_text code
-    ++ (bytes "\n  effect        each canister has its own "
-    ++ (name_text code place
-    ++ bytes "\n")))
+unfoldable pub asked_text : Shown → List ℕ
+asked_text s =
+    joined (
+    filled (codes "Refit\n  readings      %n, of %n canisters\n  curve         ") (length s.doses ∷ length s.effects ∷ []) []
+    ∷ Words.curve_text s.code
+    ∷ codes "\n  effect        each canister has its own "
+    ∷ name_text s.code s.place
+    ∷ codes "\n"
+    ∷ [])
 
 -- quadrature is asked for where the order is above 1
 unfoldable pub quadrature_text : ℕ → List ℕ
-quadrature_text order =
-    cond (ltb order 2) []
-    (filled (bytes "  quadrature    order %n\n") (order ∷ []) [])
+quadrature_text order = cond (ltb 1 order) (filled (codes "  quadrature    order %n\n") (order ∷ []) []) []
 
-unfoldable pub beginning_text : Options → Bool → ℕ → ℕ → Bool → List ℕ
-beginning_text o example n groups warned =
+unfoldable pub beginning_text : Settings → Bool → Shown → Bool → List ℕ
+beginning_text o example s warned =
+    joined (
     cond example
-    (bytes
+    (codes
     "No file was named: this is R's data set Orange, with the age in days as the dose, the circumference\nin mm as the grams and the tree as the canister. 'refit help' tells what else can be asked.\n\n")
     []
-    ++ (asked_text o.code o.place n groups
-    ++ (cond o.reml (bytes "  method        restricted maximum likelihood\n") (bytes "  method        maximum likelihood\n")
-    ++ (quadrature_text o.n_agq ++ cond warned (bytes "  *** WARNINGS: read them at the end ***\n") [])))
+    ∷ asked_text s
+    ∷ cond o.reml (codes "  method        restricted maximum likelihood\n") (codes "  method        maximum likelihood\n")
+    ∷ quadrature_text o.n_agq
+    ∷ cond warned (codes "  *** WARNINGS: read them at the end ***\n") []
+    ∷ [])
 
 -- ---- start values, and a curve's values
 
 -- a line for each value of the curve
+unfoldable pub value_lines : ℕ → List ℕ
+value_lines code =
+    cond (eqb code 1) (codes "  Asym          %g\n  xmid          %g\n  scal          %g\n")
+    (cond (eqb code 2) (codes "  Asym          %g\n  R0            %g\n  lrc           %g\n")
+    (cond (eqb code 3) (codes "  Vm            %g\n  K             %g\n")
+    (codes "  A             %g\n  B             %g\n  xmid          %g\n  scal          %g\n")))
+
 unfoldable pub values_text : ℕ → List Float → List ℕ
-values_text code values =
-    filled
-    (cond (eqb code 1) (bytes "  Asym          %g\n  xmid          %g\n  scal          %g\n")
-    (cond (eqb code 2) (bytes "  Asym          %g\n  R0            %g\n  lrc           %g\n")
-    (cond (eqb code 3) (bytes "  Vm            %g\n  K             %g\n")
-    (bytes "  A             %g\n  B             %g\n  xmid          %g\n  scal          %g\n"))))
-    [] values
+values_text code values = filled (value_lines code) [] values
 
 -- which start values were not taken as the self-start answers them, and why
 unfoldable pub note_text : ℕ → List ℕ
 note_text code =
     cond (eqb code 1)
-    (bytes
+    (codes
     "  Note: for readings that rise the self-start answers this scal with a minus sign, from which a fit ends in a step.\n  The sign was turned here before the search.\n")
-    (bytes
+    (codes
     "  Note: the self-start answers lrc as a rate, ln 2 by the dose at half of the way, and the curve takes the rate's logarithm.\n  The logarithm was taken here before the search.\n")
 
 unfoldable pub starts_text : ℕ → Bool → Bool → List Float → List ℕ
 starts_text code given adjusted starts =
-    cond given (bytes "\nStart values, given by --start\n") (bytes "\nStart values, from the readings\n")
-    ++ (values_text code starts
-    ++ cond adjusted (note_text code) [])
+    joined (
+    cond given (codes "\nStart values, given by --start\n") (codes "\nStart values, from the readings\n")
+    ∷ values_text code starts
+    ∷ cond adjusted (note_text code) []
+    ∷ [])
 
 -- ---- theta and the fit
 
 -- a search or a fit that has not converged is told loudly
 abbrev pub converged_text : Bool → List ℕ
-converged_text is = cond is (bytes "  converged\n") (bytes "  *** NOT CONVERGED: do not use these numbers ***\n")
+converged_text is = cond is (codes "  converged\n") (codes "  *** NOT CONVERGED: do not use these numbers ***\n")
 
-unfoldable pub theta_text : Answer → List ℕ
+unfoldable pub theta_text : Refit → List ℕ
 theta_text r =
+    joined (
     filled
-    (bytes "\nTheta, searched from 0.2 to 20\n  theta         %g\n  criterion     %g\n  search        %n narrowings, %n fits\n")
-    (r.narrowings ∷ r.fits ∷ []) (r.theta ∷ r.criterion ∷ [])
-    ++ converged_text r.found
+    (codes "\nTheta, searched from 0.2 to 20\n  theta         %g\n  criterion     %g\n  search        %n narrowings, %n fits\n")
+    (r.search.narrowings ∷ r.search.fits ∷ []) (r.search.theta ∷ r.search.criterion ∷ [])
+    ∷ converged_text r.search.converged
+    ∷ [])
 
 -- the spread of the canisters, which is theta times the root of sigma2 but for SSasymp, whose criterion is another
-unfoldable pub spread_text : ℕ → ℕ → Float → List ℕ
-spread_text code place x =
-    cond (eqb code 2) []
-    (filled (bytes "  canisters'    %g   spread of their ") [] (x ∷ [])
-    ++ (name_text code place ++ bytes ": theta times the root of sigma2\n"))
+unfoldable pub spread_of : ℕ → ℕ → Float → List ℕ
+spread_of code place x =
+    joined (
+    filled (codes "  canisters'    %g   spread of their ") [] (x ∷ [])
+    ∷ name_text code place
+    ∷ codes ": theta times the root of sigma2\n"
+    ∷ [])
 
-unfoldable pub fit_text : ℕ → ℕ → Answer → List ℕ
+unfoldable pub spread_text : ℕ → ℕ → Float → List ℕ
+spread_text code place x = cond (eqb code 2) [] (spread_of code place x)
+
+unfoldable pub fit_text : ℕ → ℕ → Refit → List ℕ
 fit_text code place r =
     let root = sqrt_of r.sigma2 in
+    joined (
     filled
-    (bytes
+    (codes
     "\nThe fit at theta\n  rounds        %n, with %n trials\n  rss           %g   the sum of the squared differences\n  sigma2        %g   the variance of a reading; its root is %g\n")
-    (r.rounds ∷ r.trials ∷ []) (r.rss ∷ r.sigma2 ∷ root ∷ [])
-    ++ (spread_text code place (mul r.theta root) ++ converged_text r.converged)
+    (r.fit.rounds ∷ r.fit.trials ∷ []) (r.fit.rss ∷ r.sigma2 ∷ root ∷ [])
+    ∷ spread_text code place (mul r.search.theta root)
+    ∷ converged_text r.fit.converged
+    ∷ [])
 
 -- ---- the curve
 
-unfoldable pub curve_text : ℕ → List Float → List ℕ
-curve_text code values = bytes "\nThe curve of all canisters\n" ++ values_text code values
+unfoldable pub curve_text : Shown → List ℕ
+curve_text s = joined (codes "\nThe curve of all canisters\n" ∷ values_text s.code s.values ∷ [])
 
 -- ---- the warnings, last, where a screen ends
 
-unfoldable pub warnings_text : ℕ → List Bool → List ℕ
-warnings_text code w = cond (eqb (first_of w) 0) [] (bytes "\nWarnings\n" ++ lines_text code w)
+unfoldable pub all_warnings : Results → List ℕ
+all_warnings r = joined (codes "\nWarnings\n" ∷ lines_text r ∷ [])
 
--- ---- a refusal: which part of the work was refused, by which number, and what that means
+unfoldable pub warnings_text : Results → List ℕ
+warnings_text r = cond (is_some (first_of r)) (all_warnings r) []
 
-abbrev pub stages : List ℕ
-stages = bytes "\nstart values\nsearch\nfit\n"
+-- ---- a refusal: which step was refused, by which number, and what that means
 
-unfoldable pub refused_text : ℕ → ℕ → List ℕ
-refused_text stage number =
-    bytes "\n*** REFUSED: no "
-    ++ (word_of stage stages
-    ++ (filled (bytes ". The library answers number %n: ") (number ∷ []) []
-    ++ (refusal_text number
-    ++ bytes " ***\n")))
+unfoldable pub step_text : Step → List ℕ
+step_text Start = codes "start values"
+step_text Search = codes "search"
+step_text Fit = codes "fit"
+
+unfoldable pub refused_text : Refused → List ℕ
+refused_text e =
+    joined (
+    codes "\n*** REFUSED: no "
+    ∷ step_text e.step
+    ∷ filled (codes ". The library answers number %n: ") (number_of e.refusal ∷ []) []
+    ∷ refusal_text e.refusal
+    ∷ codes " ***\n"
+    ∷ [])
 
 -- ---- all of it
 
-unfoldable pub results_text : Options → Answer → List ℕ → List Float → List Float → List ℕ → List ℕ → List Float → List Float → List Bool → List ℕ
-results_text o r text doses grams group names values b w =
-    theta_text r
-    ++ (fit_text o.code o.place r
-    ++ (curve_text o.code values
-    ++ (canisters_text o.code o.place text names values b
-    ++ (readings_text o.code o.place text doses grams group names values b
-    ++ warnings_text o.code w))))
+unfoldable pub results_text : Results → List ℕ
+results_text r =
+    joined (
+    theta_text r.refit
+    ∷ fit_text r.shown.code r.shown.place r.refit
+    ∷ curve_text r.shown
+    ∷ canisters_text r.shown
+    ∷ readings_text r.shown
+    ∷ warnings_text r
+    ∷ [])
+
+unfoldable pub told_text : Settings → Bool → Results → List ℕ
+told_text o example r =
+    joined (
+    beginning_text o example r.shown (is_some (first_of r))
+    ∷ starts_text r.shown.code o.given r.refit.adjusted r.starts
+    ∷ results_text r
+    ∷ [])
 
 -- without start values nothing more is told than the refusal; a refusal after them comes below them
-unfoldable pub report_text : Options → Answer → Bool → List ℕ → List Float → List Float → List ℕ → List ℕ → List Float → List Float → List Float → List Bool → List ℕ
-report_text o r example text doses grams group names starts values b w =
-    let refused = refused_text r.stage r.refused in
-    beginning_text o example (length doses) (length b) (eqb r.stage 0 && not (eqb (first_of w) 0))
-    ++ cond (eqb r.stage 1) refused
-    (starts_text o.code (not (eqb o.start 0)) r.adjusted starts
-    ++ cond (eqb r.stage 0) (results_text o r text doses grams group names values b w) refused)
+abbrev pub begun_by : Step → List ℕ → List ℕ
+begun_by Start t = []
+begun_by Search t = t
+begun_by Fit t = t
+
+unfoldable pub begun_text : ℕ → Bool → List Float → Refused → List ℕ
+begun_text code given starts e = begun_by e.step (starts_text code given e.adjusted starts)
+
+unfoldable pub without_text : Settings → Bool → Shown → List Float → Refused → List ℕ
+without_text o example s starts e =
+    joined (beginning_text o example s false ∷ begun_text s.code o.given starts e ∷ refused_text e ∷ [])
+
+unfoldable pub report_text : Settings → Bool → Shown → List Float → Result Refit Refused → List ℕ
+report_text o example s starts (Ok refit) = told_text o example (record { shown = s; starts = starts; n_agq = o.n_agq; refit = refit })
+report_text o example s starts (Err e) = without_text o example s starts e

@@ -3,244 +3,253 @@
 
 pub mod beginning;
 
-ghost use Rattle.std.specs.Prelude.{◌≡◌, cond, not, ◌&&◌, [], eqb};
-ghost use Rattle.text_buffer.specs.Text.{start, wrote};
-ghost use Rattle.refit_report.specs.Report.{values_text, note_text, starts_text, theta_text, spread_text, converged_text, fit_text, curve_text, warnings_text, refused_text, results_text, report_text};
-ghost use Rattle.refit_warnings.specs.Told.{first_of};
+ghost use Rattle.std.specs.Prelude.{◌≡◌, cond, []};
+ghost use Rattle.curves.specs.MeanFn.{code_of};
+ghost use Rattle.text_buffer.specs.Text.{wrote};
+ghost use Rattle.svg_axes.specs.Subject.{shown};
+ghost use Rattle.refit_warnings.specs.Warnings.{results};
+ghost use Rattle.refit_report.specs.Report.{value_lines, values_text, note_text, starts_text, theta_text, spread_of, spread_text, converged_text, fit_text, curve_text, all_warnings, warnings_text, step_text, refused_text, results_text, told_text, begun_text, without_text, report_text};
 
-use crate::beginning::{beginning, either};
-use refit_calculation::Answer;
-use refit_options::options::Options;
+use crate::beginning::{beginning, either, when};
+use curves::Curve;
+use refit_calculation::{Refit, Refused, Step};
+use refit_options::options::Settings;
 use refit_options::words::{name, refusal};
 use refit_tables::{canisters, readings};
+use refit_warnings::findings::Findings;
 use refit_warnings::told::{first, lines};
-use text_buffer::{Place, put};
+use svg_axes::subject::Subject;
+use text_buffer::Text;
 use text_lines::template::fill;
-use text_lines::words::word;
 
 // A line for each value of the curve.
-fn values_of(out: &mut [u8], p: Place, code: u64, values: &[f64]) -> Place
-    ensures { (out.new, result) ≡ wrote out.old p (values_text code values.now) }
+#[tactic(auto, unfolding(crate::specs::Report::value_lines))]
+fn value_lines(curve: Curve) -> &'static [u8]
+    ensures { result.now ≡ value_lines (code_of curve) }
 {
-    match code {
-        1 => fill(
-            out,
-            p,
-            b"  Asym          %g\n  xmid          %g\n  scal          %g\n",
-            &[],
-            values,
-        ),
-        2 => fill(
-            out,
-            p,
-            b"  Asym          %g\n  R0            %g\n  lrc           %g\n",
-            &[],
-            values,
-        ),
-        3 => fill(
-            out,
-            p,
-            b"  Vm            %g\n  K             %g\n",
-            &[],
-            values,
-        ),
-        _ => fill(
-            out,
-            p,
+    match curve {
+        Curve::Sslogis => b"  Asym          %g\n  xmid          %g\n  scal          %g\n",
+        Curve::Ssasymp => b"  Asym          %g\n  R0            %g\n  lrc           %g\n",
+        Curve::Ssmicmen => b"  Vm            %g\n  K             %g\n",
+        Curve::Ssfpl =>
             b"  A             %g\n  B             %g\n  xmid          %g\n  scal          %g\n",
-            &[],
-            values,
-        ),
     }
+}
+
+#[tactic(auto, unfolding(crate::specs::Report::values_text))]
+fn values_of(out: &mut Text<'_>, curve: Curve, values: &[f64])
+    ensures { out.new ≡ wrote out.old (values_text (code_of curve) values.now) }
+{
+    fill(out, value_lines(curve), &[], values);
 }
 
 // Which start value was not taken as the self-start answers it, and why.
-fn note(out: &mut [u8], p: Place, code: u64, adjusted: bool) -> Place
-    ensures { (out.new, result) ≡ wrote out.old p (cond adjusted (note_text code) []) }
+#[tactic(auto, unfolding(crate::specs::Report::note_text))]
+fn note(curve: Curve) -> &'static [u8]
+    ensures { result.now ≡ note_text (code_of curve) }
 {
-    if adjusted {
-        return either(
-            out,
-            p,
-            code == 1,
+    match curve {
+        Curve::Sslogis =>
             b"  Note: for readings that rise the self-start answers this scal with a minus sign, from which a fit ends in a step.\n  The sign was turned here before the search.\n",
+        _ =>
             b"  Note: the self-start answers lrc as a rate, ln 2 by the dose at half of the way, and the curve takes the rate's logarithm.\n  The logarithm was taken here before the search.\n",
-        );
     }
-    p
 }
 
-fn starts_of(
-    out: &mut [u8],
-    p: Place,
-    code: u64,
-    given: bool,
-    adjusted: bool,
-    starts: &[f64],
-) -> Place
-    ensures { (out.new, result) ≡ wrote out.old p (starts_text code given adjusted starts.now) }
+fn starts_of(out: &mut Text<'_>, curve: Curve, given: bool, adjusted: bool, starts: &[f64])
+    ensures { out.new ≡ wrote out.old (starts_text (code_of curve) given adjusted starts.now) }
 {
-    let p = either(
+    either(
         out,
-        p,
         given,
         b"\nStart values, given by --start\n",
         b"\nStart values, from the readings\n",
     );
-    let p = values_of(out, p, code, starts);
-    note(out, p, code, adjusted)
+    values_of(out, curve, starts);
+    when(out, adjusted, note(curve));
 }
 
 // A search or a fit that has not converged is told loudly.
-fn converged(out: &mut [u8], p: Place, is: bool) -> Place
-    ensures { (out.new, result) ≡ wrote out.old p (converged_text is) }
+fn converged(out: &mut Text<'_>, is: bool)
+    ensures { out.new ≡ wrote out.old (converged_text is) }
 {
     either(
         out,
-        p,
         is,
         b"  converged\n",
         b"  *** NOT CONVERGED: do not use these numbers ***\n",
-    )
+    );
 }
 
-fn theta_of(out: &mut [u8], p: Place, r: Answer) -> Place
-    ensures { (out.new, result) ≡ wrote out.old p (theta_text r) }
+fn theta_of(out: &mut Text<'_>, r: &Refit)
+    ensures { out.new ≡ wrote out.old (theta_text r.now) }
 {
-    let p = fill(
+    fill(
         out,
-        p,
         b"\nTheta, searched from 0.2 to 20\n  theta         %g\n  criterion     %g\n  search        %n narrowings, %n fits\n",
-        &[r.narrowings, r.fits],
-        &[r.theta, r.criterion],
+        &[r.search.narrowings, r.search.fits],
+        &[r.search.theta, r.search.criterion],
     );
-    converged(out, p, r.found)
+    converged(out, r.search.converged);
+}
+
+fn spread_of(out: &mut Text<'_>, curve: Curve, place: usize, x: f64)
+    ensures { out.new ≡ wrote out.old (spread_of (code_of curve) place x) }
+{
+    fill(out, b"  canisters'    %g   spread of their ", &[], &[x]);
+    name(out, curve, place);
+    out.put(b": theta times the root of sigma2\n");
 }
 
 // The spread of the canisters, which is theta times the root of sigma2 but for SSasymp, whose criterion is another.
-fn spread(out: &mut [u8], p: Place, code: u64, place: usize, x: f64) -> Place
-    ensures { (out.new, result) ≡ wrote out.old p (spread_text code place x) }
+#[tactic(auto, using(text_buffer::specs::laws::Text::writing), unfolding(crate::specs::Report::spread_text))]
+fn spread(out: &mut Text<'_>, curve: Curve, place: usize, x: f64)
+    ensures { out.new ≡ wrote out.old (spread_text (code_of curve) place x) }
 {
-    if code == 2 {
-        return p;
+    match curve {
+        Curve::Ssasymp => {}
+        _ => spread_of(out, curve, place, x),
     }
-    let p = fill(out, p, b"  canisters'    %g   spread of their ", &[], &[x]);
-    let p = name(out, p, code, place);
-    put(out, p, b": theta times the root of sigma2\n")
 }
 
-fn fit_of(out: &mut [u8], p: Place, code: u64, place: usize, r: Answer) -> Place
-    ensures { (out.new, result) ≡ wrote out.old p (fit_text code place r) }
+fn fit_of(out: &mut Text<'_>, curve: Curve, place: usize, r: &Refit)
+    ensures { out.new ≡ wrote out.old (fit_text (code_of curve) place r.now) }
 {
     let root = math::sqrt::sqrt(r.sigma2);
-    let p = fill(
+    fill(
         out,
-        p,
         b"\nThe fit at theta\n  rounds        %n, with %n trials\n  rss           %g   the sum of the squared differences\n  sigma2        %g   the variance of a reading; its root is %g\n",
-        &[r.rounds as u64, r.trials as u64],
-        &[r.rss, r.sigma2, root],
+        &[r.fit.rounds as u64, r.fit.trials as u64],
+        &[r.fit.rss, r.sigma2, root],
     );
-    let p = spread(out, p, code, place, r.theta * root);
-    converged(out, p, r.converged)
+    spread(out, curve, place, r.search.theta * root);
+    converged(out, r.fit.converged);
 }
 
-fn curve_of_all(out: &mut [u8], p: Place, code: u64, values: &[f64]) -> Place
-    ensures { (out.new, result) ≡ wrote out.old p (curve_text code values.now) }
+fn curve_of_all(out: &mut Text<'_>, s: &Subject<'_>)
+    ensures { out.new ≡ wrote out.old (curve_text (shown s.now)) }
 {
-    let p = put(out, p, b"\nThe curve of all canisters\n");
-    values_of(out, p, code, values)
+    out.put(b"\nThe curve of all canisters\n");
+    values_of(out, s.curve, s.values);
+}
+
+fn all_warnings(out: &mut Text<'_>, f: &Findings<'_>)
+    ensures { out.new ≡ wrote out.old (all_warnings (results f.now)) }
+{
+    out.put(b"\nWarnings\n");
+    lines(out, f);
 }
 
 // The warnings stand last, where a screen ends.
-fn warnings_of(out: &mut [u8], p: Place, code: u64, w: &[bool]) -> Place
-    ensures { (out.new, result) ≡ wrote out.old p (warnings_text code w.now) }
+#[tactic(auto, using(text_buffer::specs::laws::Text::writing), unfolding(crate::specs::Report::warnings_text))]
+fn warnings_of(out: &mut Text<'_>, f: &Findings<'_>)
+    ensures { out.new ≡ wrote out.old (warnings_text (results f.now)) }
 {
-    if first(w) == 0 {
-        return p;
+    if first(f).is_some() {
+        all_warnings(out, f);
     }
-    let p = put(out, p, b"\nWarnings\n");
-    lines(out, p, code, w)
 }
 
-// Whether there is a fit, and it is warned of.
-fn is_warned(stage: u64, w: &[bool]) -> bool
-    ensures { result ≡ (eqb stage 0 && not (eqb (first_of w.now) 0)) }
+#[tactic(auto, unfolding(crate::specs::Report::step_text))]
+fn step(step: Step) -> &'static [u8]
+    ensures { result.now ≡ step_text step }
 {
-    if stage == 0 {
-        return first(w) != 0;
+    match step {
+        Step::Start => b"start values",
+        Step::Search => b"search",
+        Step::Fit => b"fit",
     }
-    false
 }
 
-// Which part of the work was refused, by which number, and what that means.
-fn refused(out: &mut [u8], p: Place, stage: u64, number: u64) -> Place
-    ensures { (out.new, result) ≡ wrote out.old p (refused_text stage number) }
+// Which step was refused, by which number, and what that means.
+fn refused(out: &mut Text<'_>, e: Refused)
+    ensures { out.new ≡ wrote out.old (refused_text e) }
 {
-    let p = put(out, p, b"\n*** REFUSED: no ");
-    let p = word(out, p, b"\nstart values\nsearch\nfit\n", stage);
-    let p = fill(out, p, b". The library answers number %n: ", &[number], &[]);
-    let p = refusal(out, p, number);
-    put(out, p, b" ***\n")
+    out.put(b"\n*** REFUSED: no ");
+    out.put(step(e.step));
+    fill(
+        out,
+        b". The library answers number %n: ",
+        &[e.refusal.number()],
+        &[],
+    );
+    refusal(out, e.refusal);
+    out.put(b" ***\n");
 }
 
 // What was found, each canister's curve and each reading.
-fn results(
-    out: &mut [u8],
-    p: Place,
-    o: Options,
-    r: Answer,
-    text: &[u8],
-    doses: &[f64],
-    grams: &[f64],
-    group: &[usize],
-    names: &[u64],
-    values: &[f64],
-    b: &[f64],
-    w: &[bool],
-) -> Place
-    ensures { (out.new, result)
-        ≡ wrote out.old p
-        (results_text o r text.now doses.now grams.now group.now
-        names.now values.now b.now w.now) }
+#[tactic(auto, using(text_buffer::specs::laws::Text::writing), unfolding(crate::specs::Report::results_text))]
+fn results_of(out: &mut Text<'_>, f: &Findings<'_>)
+    ensures { out.new ≡ wrote out.old (results_text (results f.now)) }
 {
-    let p = theta_of(out, p, r);
-    let p = fit_of(out, p, o.code, o.place, r);
-    let p = curve_of_all(out, p, o.code, values);
-    let p = canisters(out, p, o.code, o.place, text, names, values, b);
-    let p = readings(
-        out, p, o.code, o.place, text, doses, grams, group, names, values, b,
-    );
-    warnings_of(out, p, o.code, w)
+    let s = &f.subject;
+    theta_of(out, &f.refit);
+    fit_of(out, s.curve, s.place, &f.refit);
+    curve_of_all(out, s);
+    canisters(out, s);
+    readings(out, s);
+    warnings_of(out, f);
 }
 
-pub fn report(
-    out: &mut [u8],
-    o: Options,
-    r: Answer,
-    example: bool,
-    text: &[u8],
-    doses: &[f64],
-    grams: &[f64],
-    group: &[usize],
-    names: &[u64],
-    starts: &[f64],
-    values: &[f64],
-    b: &[f64],
-    w: &[bool],
-) -> Place
-    ensures { (out.new, result)
-        ≡ wrote out.old start
-        (report_text o r example text.now doses.now grams.now group.now
-        names.now starts.now values.now b.now w.now) }
+// The report of a refit that was not refused.
+#[tactic(auto, using(text_buffer::specs::laws::Text::writing), unfolding(crate::specs::Report::told_text))]
+fn told(out: &mut Text<'_>, o: &Settings, example: bool, f: &Findings<'_>)
+    ensures { out.new ≡ wrote out.old (told_text o.now example (results f.now)) }
 {
-    let warned = is_warned(r.stage, w);
-    let p = beginning(out, o, example, doses.len(), b.len(), warned);
-    if r.stage == 1 {
-        return refused(out, p, r.stage, r.refused);
+    let s = &f.subject;
+    beginning(out, o, example, s, first(f).is_some());
+    starts_of(out, s.curve, o.given, f.refit.adjusted, f.starts);
+    results_of(out, f);
+}
+
+// Without start values nothing more is told than the refusal; a refusal after them comes below them.
+#[tactic(auto, using(text_buffer::specs::laws::Text::writing), unfolding(crate::specs::Report::begun_text))]
+fn begun(out: &mut Text<'_>, curve: Curve, given: bool, starts: &[f64], e: Refused)
+    ensures { out.new ≡ wrote out.old (begun_text (code_of curve) given starts.now e) }
+{
+    match e.step {
+        Step::Start => {}
+        Step::Search | Step::Fit => starts_of(out, curve, given, e.adjusted, starts),
     }
-    let p = starts_of(out, p, o.code, o.start != 0, r.adjusted, starts);
-    if r.stage == 0 {
-        return results(out, p, o, r, text, doses, grams, group, names, values, b, w);
+}
+
+#[tactic(auto, using(text_buffer::specs::laws::Text::writing), unfolding(crate::specs::Report::without_text))]
+fn without(
+    out: &mut Text<'_>,
+    o: &Settings,
+    example: bool,
+    s: &Subject<'_>,
+    starts: &[f64],
+    e: Refused,
+)
+    ensures { out.new ≡ wrote out.old (without_text o.now example (shown s.now) starts.now e) }
+{
+    beginning(out, o, example, s, false);
+    begun(out, s.curve, o.given, starts, e);
+    refused(out, e);
+}
+
+#[tactic(auto, unfolding(crate::specs::Report::report_text))]
+pub fn report(
+    out: &mut Text<'_>,
+    o: &Settings,
+    example: bool,
+    s: &Subject<'_>,
+    starts: &[f64],
+    answer: Result<Refit, Refused>,
+)
+    ensures { out.new ≡ wrote out.old (report_text o.now example (shown s.now) starts.now answer) }
+{
+    match answer {
+        Ok(refit) => {
+            let f = Findings {
+                subject: *s,
+                starts,
+                n_agq: o.n_agq,
+                refit,
+            };
+            told(out, o, example, &f);
+        }
+        Err(e) => without(out, o, example, s, starts, e),
     }
-    refused(out, p, r.stage, r.refused)
 }

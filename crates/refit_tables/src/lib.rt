@@ -1,267 +1,151 @@
 // The two tables of a report: each canister's own curve, and each reading beside its curve.
 #![tactic(auto)]
 
-ghost use Rattle.std.specs.Prelude.{◌≡◌, length, get_or};
-ghost use Rattle.math.specs.Basic.{abs_of, max_of};
+ghost use Rattle.std.specs.Prelude.{◌≡◌, length, get_or, slice_index};
+ghost use Rattle.curves.specs.MeanFn.{code_of};
 ghost use Rattle.text_buffer.specs.Text.{wrote};
+ghost use Rattle.svg_axes.specs.Subject.{shown};
 ghost use Rattle.svg_marks.specs.Escape.{each};
-ghost use Rattle.refit_tables.specs.Tables.{canister_text, decimals_for, largest_of, own_text, canister_row, canisters_text, reading_row, reading_at, readings_text};
+ghost use Rattle.refit_tables.specs.Tables.{name_text, canister_text, decimals_for, largest_of, own_text, canister_row, heads_of, canisters_text, reading_row, reading_rows, readings_text};
 
+use curves::Curve;
 use svg_axes::curve_at;
-use text_buffer::{Place, put};
+use svg_axes::subject::Subject;
+use text_buffer::Text;
 use text_floats::decimals;
 use text_lines::columns;
-use text_lines::words::word;
 
-// A canister's name stands in the text from names[2g] to names[2g + 1]: at the left of 14 places.
-fn canister(out: &mut [u8], p: Place, text: &[u8], names: &[u64], g: usize) -> Place
-    ensures { (out.new, result) ≡ wrote out.old p (canister_text text.now names.now g) }
+// A canister's name, at the left of 14 places.
+#[tactic(auto, unfolding(crate::specs::Tables::name_text))]
+fn name(out: &mut Text<'_>, s: &Subject<'_>, g: usize)
+    ensures { out.new ≡ wrote out.old (name_text (shown s.now) g) }
 {
-    let p = put(out, p, b"  ");
-    if g < names.len() / 2 {
-        let from = names[2 * g] as usize;
-        let to = names[2 * g + 1] as usize;
-        return columns::part(out, p, 14, text, from, to);
+    match s.names.get(g) {
+        Some(span) => columns::left(out, 14, span.of(s.text)),
+        None => columns::left(out, 14, b""),
     }
-    columns::left(out, p, 14, b"")
+}
+
+#[tactic(auto, using(text_buffer::specs::laws::Text::writing), unfolding(crate::specs::Tables::canister_text))]
+fn canister(out: &mut Text<'_>, s: &Subject<'_>, g: usize)
+    ensures { out.new ≡ wrote out.old (canister_text (shown s.now) g) }
+{
+    out.put(b"  ");
+    name(out, s, g);
 }
 
 // The decimals of a column whose numbers are about this size: six significant digits.
+#[tactic(auto, unfolding(crate::specs::Tables::decimals_for))]
 fn decimals_for(size: f64) -> u64
     ensures { result ≡ decimals_for size }
 {
     if size < 1e-5 {
-        return 6;
+        6
+    } else {
+        decimals(size).saturating_sub(1)
     }
-    let d = decimals(size);
-    if d > 0 { d - 1 } else { 0 }
-}
-
-fn larger(m: f64, x: f64) -> f64
-    ensures { result ≡ max_of m (abs_of x) }
-{
-    math::max(m, math::abs(x))
 }
 
 // The largest size in a list.
+#[tactic(auto, unfolding(crate::specs::Tables::largest_of))]
 fn largest(list: &[f64]) -> f64
     ensures { result ≡ largest_of list.now }
 {
-    let mut m = 0.0;
-    let mut i = 0usize;
-    while i < list.len() {
-        m = larger(m, math::at(list, i));
-        i += 1;
-    }
-    m
+    list.iter().fold(0.0, |m, x| math::max(m, math::abs(*x)))
 }
 
 // Value i of a canister: where the effect stands, with it.
-fn own_value(out: &mut [u8], p: Place, place: usize, values: &[f64], effect: f64, i: usize) -> Place
-    ensures { (out.new, result) ≡ wrote out.old p (own_text place values.now effect i) }
+#[tactic(auto, unfolding(crate::specs::Tables::own_text))]
+fn own_value(out: &mut Text<'_>, s: &Subject<'_>, effect: f64, i: usize)
+    ensures { out.new ≡ wrote out.old (own_text (shown s.now) effect i) }
 {
-    let value = math::at(values, i);
-    let d = decimals_for(math::abs(value));
-    if i == place {
-        return columns::fixed(out, p, 13, value + effect, d);
+    let value = math::at(s.values, i);
+    let own = if i == s.place { value + effect } else { value };
+    columns::fixed(out, 13, own, decimals_for(math::abs(value)));
+}
+
+#[tactic(auto, using(svg_marks::proofs::Laws::running))]
+fn own_values(out: &mut Text<'_>, s: &Subject<'_>, effect: f64)
+    ensures { out.new ≡ wrote out.old (each (own_text (shown s.now) effect) (length s.now.values.now)) }
+{
+    for i in 0..s.values.len() {
+        own_value(out, s, effect, i);
     }
-    columns::fixed(out, p, 13, value, d)
 }
 
-fn own_values(out: &mut [u8], p: Place, place: usize, values: &[f64], effect: f64) -> Place
-    ensures { (out.new, result)
-        ≡ wrote out.old p (each (own_text place values.now effect) (length values.now)) }
+#[tactic(auto, using(text_buffer::specs::laws::Text::writing), unfolding(crate::specs::Tables::canister_row))]
+fn canister_row(out: &mut Text<'_>, s: &Subject<'_>, g: usize)
+    ensures { out.new ≡ wrote out.old (canister_row (shown s.now) g) }
 {
-    let mut q = p;
-    let mut i = 0usize;
-    while i < values.len() {
-        q = own_value(out, q, place, values, effect, i);
-        i += 1;
+    let effect = math::at(s.effects, g);
+    let d = decimals_for(math::abs(math::at(s.values, s.place)));
+    canister(out, s, g);
+    columns::fixed(out, 13, effect, d);
+    own_values(out, s, effect);
+    out.put(b"\n");
+}
+
+#[tactic(auto, using(svg_marks::proofs::Laws::running))]
+fn canister_rows(out: &mut Text<'_>, s: &Subject<'_>)
+    ensures { out.new ≡ wrote out.old (each (canister_row (shown s.now)) (length s.now.effects.now)) }
+{
+    for g in 0..s.effects.len() {
+        canister_row(out, s, g);
     }
-    q
 }
 
-fn canister_row(
-    out: &mut [u8],
-    p: Place,
-    place: usize,
-    text: &[u8],
-    names: &[u64],
-    values: &[f64],
-    b: &[f64],
-    g: usize,
-) -> Place
-    ensures { (out.new, result)
-        ≡ wrote out.old p
-        (canister_row place text.now names.now values.now b.now g) }
+// What stands over the values.
+fn heads(curve: Curve) -> &'static [u8]
+    ensures { result.now ≡ heads_of (code_of curve) }
 {
-    let effect = math::at(b, g);
-    let d = decimals_for(math::abs(math::at(values, place)));
-    let p = canister(out, p, text, names, g);
-    let p = columns::fixed(out, p, 13, effect, d);
-    let p = own_values(out, p, place, values, effect);
-    put(out, p, b"\n")
-}
-
-fn canister_rows(
-    out: &mut [u8],
-    p: Place,
-    place: usize,
-    text: &[u8],
-    names: &[u64],
-    values: &[f64],
-    b: &[f64],
-) -> Place
-    ensures { (out.new, result)
-        ≡ wrote out.old p
-        (each (canister_row place text.now names.now values.now b.now)
-        (length b.now)) }
-{
-    let mut q = p;
-    let mut g = 0usize;
-    while g < b.len() {
-        q = canister_row(out, q, place, text, names, values, b, g);
-        g += 1;
+    match curve {
+        Curve::Sslogis => b"         Asym         xmid         scal",
+        Curve::Ssasymp => b"         Asym           R0          lrc",
+        Curve::Ssmicmen => b"           Vm            K",
+        Curve::Ssfpl => b"            A            B         xmid         scal",
     }
-    q
 }
 
-pub fn canisters(
-    out: &mut [u8],
-    p: Place,
-    code: u64,
-    place: usize,
-    text: &[u8],
-    names: &[u64],
-    values: &[f64],
-    b: &[f64],
-) -> Place
-    ensures { (out.new, result)
-        ≡ wrote out.old p
-        (canisters_text code place text.now names.now values.now b.now) }
+pub fn canisters(out: &mut Text<'_>, s: &Subject<'_>)
+    ensures { out.new ≡ wrote out.old (canisters_text (shown s.now)) }
 {
-    let p = put(
-        out,
-        p,
-        b"\nEach canister's own curve\n  canister             effect",
-    );
-    let p = word(
-        out,
-        p,
-        b"\n         Asym         xmid         scal\n         Asym           R0          lrc\n           Vm            K\n            A            B         xmid         scal\n",
-        code,
-    );
-    let p = put(out, p, b"\n");
-    canister_rows(out, p, place, text, names, values, b)
+    out.put(b"\nEach canister's own curve\n  canister             effect");
+    out.put(heads(s.curve));
+    out.put(b"\n");
+    canister_rows(out, s);
 }
 
-// What was weighed, what the curve says, and the difference.
-fn reading_row(
-    out: &mut [u8],
-    p: Place,
-    text: &[u8],
-    names: &[u64],
-    g: usize,
-    dose: f64,
-    grams: f64,
-    says: f64,
-    d: u64,
-) -> Place
-    ensures { (out.new, result)
-        ≡ wrote out.old p (reading_row text.now names.now g dose grams says d) }
+// Reading i, of canister g: what was weighed, what the curve says, and the difference, with so many decimals.
+#[tactic(auto, using(text_buffer::specs::laws::Text::writing), unfolding(crate::specs::Tables::reading_row))]
+fn reading_row(out: &mut Text<'_>, s: &Subject<'_>, d: u64, g: usize, i: usize)
+    ensures { out.new ≡ wrote out.old (reading_row (shown s.now) d g i) }
 {
-    let p = canister(out, p, text, names, g);
-    let p = columns::figure(out, p, 13, dose);
-    let p = columns::figure(out, p, 13, grams);
-    let p = columns::fixed(out, p, 13, says, d);
-    let p = columns::fixed(out, p, 14, grams - says, d);
-    put(out, p, b"\n")
+    let dose = math::at(s.doses, i);
+    let grams = math::at(s.grams, i);
+    let says = curve_at(s, g, dose);
+    canister(out, s, g);
+    columns::figure(out, 13, dose);
+    columns::figure(out, 13, grams);
+    columns::fixed(out, 13, says, d);
+    columns::fixed(out, 14, grams - says, d);
+    out.put(b"\n");
 }
 
-// Reading i.
-fn reading(
-    out: &mut [u8],
-    p: Place,
-    code: u64,
-    place: usize,
-    text: &[u8],
-    doses: &[f64],
-    grams: &[f64],
-    names: &[u64],
-    values: &[f64],
-    b: &[f64],
-    d: u64,
-    g: usize,
-    i: usize,
-) -> Place
-    ensures { (out.new, result)
-        ≡ wrote out.old p
-        (reading_at code place text.now doses.now grams.now names.now
-        values.now b.now d g i) }
+#[tactic(auto, using(svg_marks::proofs::Laws::running), unfolding(crate::specs::Tables::reading_rows))]
+fn reading_rows(out: &mut Text<'_>, s: &Subject<'_>, d: u64)
+    ensures { out.new ≡ wrote out.old (reading_rows (shown s.now) d) }
 {
-    let dose = math::at(doses, i);
-    let says = curve_at(code, place, values, b, g, dose);
-    reading_row(out, p, text, names, g, dose, math::at(grams, i), says, d)
-}
-
-fn reading_rows(
-    out: &mut [u8],
-    p: Place,
-    code: u64,
-    place: usize,
-    text: &[u8],
-    doses: &[f64],
-    grams: &[f64],
-    group: &[usize],
-    names: &[u64],
-    values: &[f64],
-    b: &[f64],
-    d: u64,
-) -> Place
-    ensures { (out.new, result)
-        ≡ wrote out.old p
-        (each
-        (λ i.
-        reading_at code place text.now doses.now grams.now names.now
-        values.now b.now d (get_or group.now i 0) i)
-        (length group.now)) }
-{
-    let mut q = p;
-    let mut i = 0usize;
-    while i < group.len() {
-        q = reading(
-            out, q, code, place, text, doses, grams, names, values, b, d, group[i], i,
-        );
-        i += 1;
+    for (i, &g) in s.group.iter().enumerate() {
+        reading_row(out, s, d, g, i);
     }
-    q
 }
 
-pub fn readings(
-    out: &mut [u8],
-    p: Place,
-    code: u64,
-    place: usize,
-    text: &[u8],
-    doses: &[f64],
-    grams: &[f64],
-    group: &[usize],
-    names: &[u64],
-    values: &[f64],
-    b: &[f64],
-) -> Place
-    ensures { (out.new, result)
-        ≡ wrote out.old p
-        (readings_text code place text.now doses.now grams.now group.now
-        names.now values.now b.now) }
+pub fn readings(out: &mut Text<'_>, s: &Subject<'_>)
+    ensures { out.new ≡ wrote out.old (readings_text (shown s.now)) }
 {
-    let d = decimals_for(largest(grams));
-    let p = put(
-        out,
-        p,
+    let d = decimals_for(largest(s.grams));
+    out.put(
         b"\nEach reading\n  canister               dose      weighed   curve says    difference\n",
     );
-    reading_rows(
-        out, p, code, place, text, doses, grams, group, names, values, b, d,
-    )
+    reading_rows(out, s, d);
 }

@@ -1,38 +1,74 @@
 -- The warnings in words.
-use Rattle.std.specs.Prelude.{ℕ, ◌+◌, ◌-◌, Bool, false, cond, List, [], ◌++◌, ltb, length, get_or}
-use Rattle.math.specs.Loops.{until}
-use Rattle.text_buffer.specs.Text.{bytes}
-use Rattle.text_lines.specs.Lines.{word_of}
-use Rattle.svg_marks.specs.Escape.{each}
+use Rattle.std.specs.Prelude.{ℕ, cond, List, [], ◌∷◌, ◌++◌, Option, Some, None, codes, find}
+use Rattle.text_buffer.specs.Text.{joined}
 use Rattle.refit_options.specs.Words.{name_text}
+use Rattle.refit_warnings.specs.declared.findings.Warning.{Warning}
+use Rattle.refit_warnings.specs.declared.findings.Warning.TheVariants.{Unmoved, Search, Fit, Step, Nothing, Few, Low, High, Alone, Quadrature}
+use Rattle.refit_warnings.specs.Warnings.{Results, warns}
 
--- what is wrong, and what to do: of warnings 0 to 3, which begin with the value's name, and then of each
-abbrev pub whats : List ℕ
-whats =
-    bytes
-    " did not move from its start\nThe search over theta did not converge\nThe fit did not converge\nscal ended at its floor, 1e-06: the curve is a step\nThe curve comes no nearer to the readings than a constant for each canister: it explains nothing\nThere are no more readings than values to be found, or fewer doses than the curve has values\ntheta lies at the lower end of the searched range: the best theta may be smaller\ntheta lies at the upper end of the searched range: the best theta may be larger\nThere is one canister only, so that theta and the spread mean nothing\nQuadrature follows the published Rust, whose correction moves theta far away from where other programs find it\n"
+-- all warnings, the gravest first
+abbrev pub all_warnings : List Warning
+all_warnings =
+    Unmoved 0 ∷ Unmoved 1 ∷ Unmoved 2 ∷ Unmoved 3 ∷ Search ∷ Fit ∷ Step ∷ Nothing ∷ Few ∷ Low ∷ High ∷ Alone ∷ Quadrature ∷ []
 
-abbrev pub remedies : List ℕ
-remedies =
-    bytes
-    "Do not use these numbers. From this start the readings told nothing of it: give another one (--start), or try another --curve.\nDo not use these numbers. Look for a reading that is far off, give start values (--start), or try another --curve.\nDo not use these numbers. Look for a reading that is far off, give start values (--start), or try another --curve.\nDo not use these numbers. Do the readings fall with the dose? Give start values (--start), or try another --curve.\nDo not use these numbers. Give start values (--start), or try another --curve or --effect.\nDo not use these numbers: a curve can be laid through almost anything then. Weigh more doses.\nThe canisters differ too little to be told apart: their own curves are nearly that of all canisters.\nEach canister's curve stands nearly alone. Is each name one canister, and was each weighed at several doses?\nThe curve does not depend on them. To learn how much canisters differ, weigh a second one.\nLeave --quadrature out unless you want just those numbers.\n"
+-- what is wrong; of a value that did not move its name stands before
+unfoldable pub what_of : Warning → List ℕ
+what_of (Unmoved i) = codes " did not move from its start"
+what_of Search = codes "The search over theta did not converge"
+what_of Fit = codes "The fit did not converge"
+what_of Step = codes "scal ended at its floor, 1e-06: the curve is a step"
+what_of Nothing = codes "The curve comes no nearer to the readings than a constant for each canister: it explains nothing"
+what_of Few = codes "There are no more readings than values to be found, or fewer doses than the curve has values"
+what_of Low = codes "theta lies at the lower end of the searched range: the best theta may be smaller"
+what_of High = codes "theta lies at the upper end of the searched range: the best theta may be larger"
+what_of Alone = codes "There is one canister only, so that theta and the spread mean nothing"
+what_of Quadrature = codes "Quadrature follows the published Rust, whose correction moves theta far away from where other programs find it"
 
-unfoldable pub line_text : ℕ → ℕ → List ℕ
-line_text code k =
-    bytes "  *** "
-    ++ (cond (ltb k 4) (name_text code k) []
-    ++ (word_of (k - 3) whats
-    ++ (bytes " ***\n      "
-    ++ (word_of (k - 3) remedies
-    ++ bytes "\n"))))
+-- what to do
+unfoldable pub remedy_of : Warning → List ℕ
+remedy_of (Unmoved i) = codes "Do not use these numbers. From this start the readings told nothing of it: give another one (--start), or try another --curve."
+remedy_of Search = codes "Do not use these numbers. Look for a reading that is far off, give start values (--start), or try another --curve."
+remedy_of Fit = codes "Do not use these numbers. Look for a reading that is far off, give start values (--start), or try another --curve."
+remedy_of Step = codes "Do not use these numbers. Do the readings fall with the dose? Give start values (--start), or try another --curve."
+remedy_of Nothing = codes "Do not use these numbers. Give start values (--start), or try another --curve or --effect."
+remedy_of Few = codes "Do not use these numbers: a curve can be laid through almost anything then. Weigh more doses."
+remedy_of Low = codes "The canisters differ too little to be told apart: their own curves are nearly that of all canisters."
+remedy_of High = codes "Each canister's curve stands nearly alone. Is each name one canister, and was each weighed at several doses?"
+remedy_of Alone = codes "The curve does not depend on them. To learn how much canisters differ, weigh a second one."
+remedy_of Quadrature = codes "Leave --quadrature out unless you want just those numbers."
+
+unfoldable pub value_text : ℕ → Warning → List ℕ
+value_text code (Unmoved i) = name_text code i
+value_text code _ = []
+
+unfoldable pub line_text : ℕ → Warning → List ℕ
+line_text code w = joined (codes "  *** " ∷ value_text code w ∷ what_of w ∷ codes " ***\n      " ∷ remedy_of w ∷ codes "\n" ∷ [])
 
 -- a line for each warning
-unfoldable pub lines_text : ℕ → List Bool → List ℕ
-lines_text code w = each (λ k. cond (get_or w k false) (line_text code k) []) (length w)
+unfoldable pub warned_text : Results → Warning → List ℕ
+warned_text r w = cond (warns r w) (line_text r.shown.code w) []
 
--- the number of the first warning's words, from 1; 0 where there is none
-unfoldable pub first_from : List Bool → ℕ → ℕ → ℕ
-first_from w left i = until {A = ℕ} {B = ℕ} (λ k s. get_or w k false) (λ k s. k - 3 + 1) (λ k s. s) (λ s. s) left i 0
+unfoldable pub lines_for : Results → List Warning → List ℕ
+lines_for r [] = []
+lines_for r (w ∷ ws) = warned_text r w ++ lines_for r ws
 
-abbrev pub first_of : List Bool → ℕ
-first_of w = first_from w (length w) 0
+unfoldable pub lines_text : Results → List ℕ
+lines_text r = lines_for r all_warnings
+
+-- the gravest warning
+unfoldable pub first_of : Results → Option Warning
+first_of r = find (warns r) all_warnings
+
+-- what a picture's title says, by the gravest warning
+unfoldable pub title_of : Option Warning → List ℕ
+title_of None = codes ": what was weighed, and each canister's fitted curve"
+title_of (Some (Unmoved i)) = codes ": <tspan fill=\"#b00020\">DO NOT USE THIS FIT: a value did not move from its start</tspan>"
+title_of (Some Search) = codes ": <tspan fill=\"#b00020\">DO NOT USE THIS FIT: the search did not converge</tspan>"
+title_of (Some Fit) = codes ": <tspan fill=\"#b00020\">DO NOT USE THIS FIT: it did not converge</tspan>"
+title_of (Some Step) = codes ": <tspan fill=\"#b00020\">DO NOT USE THIS FIT: the curve is a step</tspan>"
+title_of (Some Nothing) = codes ": <tspan fill=\"#b00020\">DO NOT USE THIS FIT: it explains nothing</tspan>"
+title_of (Some Few) = codes ": <tspan fill=\"#b00020\">DO NOT USE THIS FIT: too few readings</tspan>"
+title_of (Some Low) = codes ": the fitted curves; theta at the lower end of its range"
+title_of (Some High) = codes ": the fitted curves; theta at the upper end of its range"
+title_of (Some Alone) = codes ": the fitted curve; one canister only, so no theta"
+title_of (Some Quadrature) = codes ": the fitted curves; theta by the Rust's quadrature"

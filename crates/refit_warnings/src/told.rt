@@ -1,86 +1,146 @@
 // The warnings in words.
-ghost use Rattle.std.specs.Prelude.{◌≡◌, cond, [], ◌-◌, ◌≤◌, ltb};
+ghost use Rattle.std.specs.Prelude.{◌≡◌, find};
+ghost use Rattle.curves.specs.MeanFn.{code_of};
 ghost use Rattle.text_buffer.specs.Text.{wrote};
-ghost use Rattle.refit_options.specs.Words.{name_text};
-ghost use Rattle.refit_warnings.specs.Told.{line_text, lines_text, first_of};
+ghost use Rattle.refit_warnings.specs.Warnings.{results, warns};
+ghost use Rattle.refit_warnings.specs.Told.{what_of, remedy_of, value_text, line_text, warned_text, lines_for, lines_text, first_of, title_of};
 
+use crate::findings::{Findings, Warning};
+use crate::warns;
+use curves::Curve;
 use refit_options::words::name;
-use text_buffer::{Place, put};
-use text_lines::words::word;
+use text_buffer::Text;
 
-// Where the words of a warning stand: the first four are one, each with its value's name before it.
-fn row(k: usize) -> u64
-    ensures { (result ≡ k - 3) × (result ≤ k) }
+// All warnings, the gravest first.
+const ALL: [Warning; 13] = [
+    Warning::Unmoved(0),
+    Warning::Unmoved(1),
+    Warning::Unmoved(2),
+    Warning::Unmoved(3),
+    Warning::Search,
+    Warning::Fit,
+    Warning::Step,
+    Warning::Nothing,
+    Warning::Few,
+    Warning::Low,
+    Warning::High,
+    Warning::Alone,
+    Warning::Quadrature,
+];
+
+// What is wrong; of a value that did not move its name stands before.
+#[tactic(auto, unfolding(crate::specs::Told::what_of))]
+fn what(warning: Warning) -> &'static [u8]
+    ensures { result.now ≡ what_of warning }
 {
-    if k < 4 {
-        return 0;
+    match warning {
+        Warning::Unmoved(_) => b" did not move from its start",
+        Warning::Search => b"The search over theta did not converge",
+        Warning::Fit => b"The fit did not converge",
+        Warning::Step => b"scal ended at its floor, 1e-06: the curve is a step",
+        Warning::Nothing => b"The curve comes no nearer to the readings than a constant for each canister: it explains nothing",
+        Warning::Few => b"There are no more readings than values to be found, or fewer doses than the curve has values",
+        Warning::Low => b"theta lies at the lower end of the searched range: the best theta may be smaller",
+        Warning::High => b"theta lies at the upper end of the searched range: the best theta may be larger",
+        Warning::Alone => b"There is one canister only, so that theta and the spread mean nothing",
+        Warning::Quadrature => b"Quadrature follows the published Rust, whose correction moves theta far away from where other programs find it",
     }
-    (k - 3) as u64
 }
 
-fn value(out: &mut [u8], p: Place, code: u64, k: usize) -> Place
-    ensures { (out.new, result) ≡ wrote out.old p (cond (ltb k 4) (name_text code k) []) }
+// What to do.
+#[tactic(auto, unfolding(crate::specs::Told::remedy_of))]
+fn remedy(warning: Warning) -> &'static [u8]
+    ensures { result.now ≡ remedy_of warning }
 {
-    if k < 4 {
-        return name(out, p, code, k);
+    match warning {
+        Warning::Unmoved(_) => b"Do not use these numbers. From this start the readings told nothing of it: give another one (--start), or try another --curve.",
+        Warning::Search | Warning::Fit => b"Do not use these numbers. Look for a reading that is far off, give start values (--start), or try another --curve.",
+        Warning::Step => b"Do not use these numbers. Do the readings fall with the dose? Give start values (--start), or try another --curve.",
+        Warning::Nothing => b"Do not use these numbers. Give start values (--start), or try another --curve or --effect.",
+        Warning::Few => b"Do not use these numbers: a curve can be laid through almost anything then. Weigh more doses.",
+        Warning::Low => b"The canisters differ too little to be told apart: their own curves are nearly that of all canisters.",
+        Warning::High => b"Each canister's curve stands nearly alone. Is each name one canister, and was each weighed at several doses?",
+        Warning::Alone => b"The curve does not depend on them. To learn how much canisters differ, weigh a second one.",
+        Warning::Quadrature => b"Leave --quadrature out unless you want just those numbers.",
     }
-    p
 }
 
-fn line(out: &mut [u8], p: Place, code: u64, k: usize) -> Place
-    ensures { (out.new, result) ≡ wrote out.old p (line_text code k) }
+#[tactic(auto, using(text_buffer::specs::laws::Text::writing), unfolding(crate::specs::Told::value_text))]
+fn value(out: &mut Text<'_>, curve: Curve, warning: Warning)
+    ensures { out.new ≡ wrote out.old (value_text (code_of curve) warning) }
 {
-    let j = row(k);
-    let p = put(out, p, b"  *** ");
-    let p = value(out, p, code, k);
-    let p = word(
-        out,
-        p,
-        b" did not move from its start\nThe search over theta did not converge\nThe fit did not converge\nscal ended at its floor, 1e-06: the curve is a step\nThe curve comes no nearer to the readings than a constant for each canister: it explains nothing\nThere are no more readings than values to be found, or fewer doses than the curve has values\ntheta lies at the lower end of the searched range: the best theta may be smaller\ntheta lies at the upper end of the searched range: the best theta may be larger\nThere is one canister only, so that theta and the spread mean nothing\nQuadrature follows the published Rust, whose correction moves theta far away from where other programs find it\n",
-        j,
-    );
-    let p = put(out, p, b" ***\n      ");
-    let p = word(
-        out,
-        p,
-        b"Do not use these numbers. From this start the readings told nothing of it: give another one (--start), or try another --curve.\nDo not use these numbers. Look for a reading that is far off, give start values (--start), or try another --curve.\nDo not use these numbers. Look for a reading that is far off, give start values (--start), or try another --curve.\nDo not use these numbers. Do the readings fall with the dose? Give start values (--start), or try another --curve.\nDo not use these numbers. Give start values (--start), or try another --curve or --effect.\nDo not use these numbers: a curve can be laid through almost anything then. Weigh more doses.\nThe canisters differ too little to be told apart: their own curves are nearly that of all canisters.\nEach canister's curve stands nearly alone. Is each name one canister, and was each weighed at several doses?\nThe curve does not depend on them. To learn how much canisters differ, weigh a second one.\nLeave --quadrature out unless you want just those numbers.\n",
-        j,
-    );
-    put(out, p, b"\n")
+    if let Warning::Unmoved(i) = warning {
+        name(out, curve, i);
+    }
 }
 
-fn line_when(out: &mut [u8], p: Place, code: u64, is: bool, k: usize) -> Place
-    ensures { (out.new, result) ≡ wrote out.old p (cond is (line_text code k) []) }
+fn line(out: &mut Text<'_>, curve: Curve, warning: Warning)
+    ensures { out.new ≡ wrote out.old (line_text (code_of curve) warning) }
 {
-    if is {
-        return line(out, p, code, k);
+    out.put(b"  *** ");
+    value(out, curve, warning);
+    out.put(what(warning));
+    out.put(b" ***\n      ");
+    out.put(remedy(warning));
+    out.put(b"\n");
+}
+
+#[tactic(auto, using(text_buffer::specs::laws::Text::writing), unfolding(crate::specs::Told::warned_text))]
+fn warned(out: &mut Text<'_>, f: &Findings<'_>, warning: Warning)
+    ensures { out.new ≡ wrote out.old (warned_text (results f.now) warning) }
+{
+    if warns(f, warning) {
+        line(out, f.subject.curve, warning);
     }
-    p
+}
+
+#[tactic(auto, using(crate::proofs::Laws::lines))]
+fn lines_for(out: &mut Text<'_>, f: &Findings<'_>, warnings: &[Warning])
+    ensures { out.new ≡ wrote out.old (lines_for (results f.now) warnings.now) }
+{
+    for &warning in warnings {
+        warned(out, f, warning);
+    }
 }
 
 // What is wrong and what to do, a line for each warning.
-pub fn lines(out: &mut [u8], p: Place, code: u64, w: &[bool]) -> Place
-    ensures { (out.new, result) ≡ wrote out.old p (lines_text code w.now) }
+#[tactic(auto, unfolding(crate::specs::Told::lines_text))]
+pub fn lines(out: &mut Text<'_>, f: &Findings<'_>)
+    ensures { out.new ≡ wrote out.old (lines_text (results f.now)) }
 {
-    let mut q = p;
-    let mut k = 0usize;
-    while k < w.len() {
-        q = line_when(out, q, code, w[k], k);
-        k += 1;
-    }
-    q
+    lines_for(out, f, &ALL);
 }
 
-// The number of the first warning's words, from 1; 0 where there is none.
-pub fn first(w: &[bool]) -> u64
-    ensures { result ≡ first_of w.now }
+fn first_among(f: &Findings<'_>, warnings: &[Warning]) -> Option<Warning>
+    ensures { result ≡ find (warns (results f.now)) warnings.now }
 {
-    let mut k = 0usize;
-    while k < w.len() {
-        if w[k] {
-            return row(k) + 1;
-        }
-        k += 1;
+    warnings.iter().copied().find(|warning| warns(f, *warning))
+}
+
+// The gravest warning.
+#[tactic(auto, unfolding(crate::specs::Told::first_of))]
+pub fn first(f: &Findings<'_>) -> Option<Warning>
+    ensures { result ≡ first_of (results f.now) }
+{
+    first_among(f, &ALL)
+}
+
+// What a picture's title says, by the gravest warning.
+#[tactic(auto, unfolding(crate::specs::Told::title_of))]
+pub fn title(first: Option<Warning>) -> &'static [u8]
+    ensures { result.now ≡ title_of first }
+{
+    match first {
+        None => b": what was weighed, and each canister's fitted curve",
+        Some(Warning::Unmoved(_)) => b": <tspan fill=\"#b00020\">DO NOT USE THIS FIT: a value did not move from its start</tspan>",
+        Some(Warning::Search) => b": <tspan fill=\"#b00020\">DO NOT USE THIS FIT: the search did not converge</tspan>",
+        Some(Warning::Fit) => b": <tspan fill=\"#b00020\">DO NOT USE THIS FIT: it did not converge</tspan>",
+        Some(Warning::Step) => b": <tspan fill=\"#b00020\">DO NOT USE THIS FIT: the curve is a step</tspan>",
+        Some(Warning::Nothing) => b": <tspan fill=\"#b00020\">DO NOT USE THIS FIT: it explains nothing</tspan>",
+        Some(Warning::Few) => b": <tspan fill=\"#b00020\">DO NOT USE THIS FIT: too few readings</tspan>",
+        Some(Warning::Low) => b": the fitted curves; theta at the lower end of its range",
+        Some(Warning::High) => b": the fitted curves; theta at the upper end of its range",
+        Some(Warning::Alone) => b": the fitted curve; one canister only, so no theta",
+        Some(Warning::Quadrature) => b": the fitted curves; theta by the Rust's quadrature",
     }
-    0
 }

@@ -1,8 +1,8 @@
--- The filled lines, the spread and whether it converged are one text; the root of sigma2 is the callee's. Assumes nothing.
-use Rattle.text_buffer.specs.laws.Text.{then}
+-- The texts of the definition, one by one.
+use Rattle.text_buffer.specs.laws.Text.{joined_none, joined_then}
 use Rattle.refit_report.specs.Report.{fit_text}
 use Rattle.refit_report.proofs.fit_of.Goals as goal
 
 pub returns : goal.returns
 unfolding fit_text
-returns c = rw (← c.sqrt-root.ensures) (then _ _ _ _ _ _ _ c.fill-p.ensures (then _ _ _ _ _ _ _ c.spread-p.ensures c.converged.ensures))
+returns c = simp (joined_then, joined_none) (cc)

@@ -1,8 +1,8 @@
--- The heading, the curve's columns and the rows are one text. Assumes nothing.
-use Rattle.text_buffer.specs.laws.Text.{then}
+-- The texts of the definition, one by one.
+use Rattle.text_buffer.specs.laws.Text.{joined_none, joined_then}
 use Rattle.refit_tables.specs.Tables.{canisters_text}
 use Rattle.refit_tables.proofs.canisters.Goals as goal
 
 pub returns : goal.returns
 unfolding canisters_text
-returns c = then _ _ _ _ _ _ _ c.put-p.ensures (then _ _ _ _ _ _ _ c.word-p.ensures (then _ _ _ _ _ _ _ c.put-p-2.ensures c.canister_rows.ensures))
+returns c = simp (joined_then, joined_none) (cc)

@@ -1,13 +1,10 @@
-use mathlib.Core.Path.{◌≡◌}
-use Prim.Native.Nat.{◌≤◌, ◌-◌}
-use lib.ListN.{length, get_or}
+use Rattle.std.proofs.Common.{◌≡◌}
+use Rattle.std.specs.Prelude.{slice_index}
 use Rattle.text_buffer.specs.Text.{wrote}
+use Rattle.svg_axes.specs.Subject.{shown}
 use Rattle.svg_marks.specs.Escape.{each}
-use Rattle.refit_tables.specs.Tables.{reading_at}
+use Rattle.refit_tables.specs.Tables.{reading_row}
 use Rattle.refit_tables.proofs.reading_rows.Given as goal
 
 abbrev pub invariant-loop-i : goal.invariant-loop-i
-invariant-loop-i l = (((l.i ≤ length l.group) × (length l.out ≡ length l.initial.out)) × ((l.out, l.q) ≡ wrote l.initial.out l.initial.q (each (λ j. reading_at l.code l.place l.text l.doses l.grams l.names l.values l.b l.d (get_or l.group j 0) j) l.i)))
-
-abbrev pub decreases-loop-i : goal.decreases-loop-i
-decreases-loop-i l = length l.group - l.i
+invariant-loop-i l = l.out ≡ wrote l.initial.out (each (λ k. reading_row (shown l.s) l.d (slice_index l.s.group.now k) k) l.i)
