@@ -3,35 +3,39 @@
 #![tactic(auto)]
 
 pub mod starts;
-pub mod words;
 
 ghost use Rattle.std.specs.Prelude.{◌≤◌, length, IfOk};
 
-use crate::starts::{Starts, read_starts};
-use crate::words::{begin_of, end_from};
-use refit_options::options::Options;
-use refit_run::Outcome;
+use crate::starts::read_starts;
+use read_table::fault::TableFault;
+use refit_options::options::{Asked, Command, Fit, OptionError, OptionFault, Page};
+use refit_run::Readings;
 use std::io::{Read, Write};
 use std::rt::Files;
 use std::{fs, io, str};
+use text_buffer::{Span, Text};
 
 // A file has at most so many bytes.
 const LONGEST: usize = 65536;
 
-// The writers for what is asked for, and for faults.
-#[derive(Drop)]
-struct Ends<O: Write, E: Write> {
-    out: O,
-    err: E,
+// R's data set Orange.
+const ORANGE: &[u8] =
+    b"# R's data set Orange: the age in days (dose), the circumference in mm (grams), the tree (canister).\nage,circumference,tree\n118,30,1\n484,58,1\n664,87,1\n1004,115,1\n1231,120,1\n1372,142,1\n1582,145,1\n118,33,2\n484,69,2\n664,111,2\n1004,156,2\n1231,172,2\n1372,203,2\n1582,203,2\n118,30,3\n484,51,3\n664,75,3\n1004,108,3\n1231,115,3\n1372,139,3\n1582,140,3\n118,32,4\n484,62,4\n664,112,4\n1004,167,4\n1231,179,4\n1372,209,4\n1582,214,4\n118,30,5\n484,49,5\n664,81,5\n1004,125,5\n1231,142,5\n1372,174,5\n1582,177,5\n";
+
+// Where readings come from: the name that faults are told with, and the text.
+#[derive(Clone, Copy)]
+struct Source<'a> {
+    name: &'a [u8],
+    text: &'a [u8],
+    example: bool,
 }
 
-// `refit: `, what is at fault, `: ` and the fault in words.
-fn complain<O: Write, E: Write>(to: &mut Ends<O, E>, what: &[u8], words: &[u8]) -> io::Result<()> {
-    to.err.write_all(b"refit: ")?;
-    to.err.write_all(what)?;
-    to.err.write_all(b": ")?;
-    to.err.write_all(words)?;
-    to.err.write_all(b"\n")
+// The runtime, and the writers for what is asked for and for faults.
+#[derive(Drop)]
+struct Console<'a, R, O: Write, E: Write> {
+    rt: &'a R,
+    out: O,
+    err: E,
 }
 
 // A system's reason in words, without the number that std puts after them.
@@ -40,59 +44,6 @@ fn without_number(reason: &str) -> &str {
         Some((words, _)) => words,
         None => reason,
     }
-}
-
-// `refit: `, the file's name and the system's reason.
-fn fail<R: AllocGlobal, O: Write, E: Write>(
-    rt: &R,
-    to: &mut Ends<O, E>,
-    name: &[u8],
-    error: io::Error,
-) -> io::Result<()> {
-    let reason = format!(in rt.alloc(); "{error}")?;
-    complain(to, name, without_number(reason.as_str()).as_bytes())
-}
-
-fn complain_of_word<O: Write, E: Write>(
-    to: &mut Ends<O, E>,
-    words: &[u8],
-    i: usize,
-    fault: u64,
-) -> io::Result<()> {
-    let mut room = [0u8; 4096];
-    let p = refit_options::options::fault(&mut room, text_buffer::begin(), fault);
-    let k = p.at;
-    if k <= 4096 {
-        let at = begin_of(words, i);
-        let end = end_from(words, at, 0);
-        complain(to, &words[at..end], &room[0..k])?;
-    }
-    Ok(())
-}
-
-fn complain_of_line<O: Write, E: Write>(
-    to: &mut Ends<O, E>,
-    name: &[u8],
-    line: u64,
-    fault: u64,
-) -> io::Result<()> {
-    let mut room = [0u8; 4096];
-    let p = refit_options::words::line_fault(&mut room, text_buffer::begin(), line, fault);
-    let k = p.at;
-    if k <= 4096 {
-        complain(to, name, &room[0..k])?;
-    }
-    Ok(())
-}
-
-fn print_help<O: Write, E: Write>(to: &mut Ends<O, E>) -> io::Result<()> {
-    let mut room = [0u8; 65536];
-    let p = refit_options::help::help(&mut room, text_buffer::begin());
-    let k = p.at;
-    if k <= 65536 {
-        to.out.write_all(&room[0..k])?;
-    }
-    Ok(())
 }
 
 // A file's name, which std takes as text.
@@ -122,233 +73,209 @@ fn read_file<R: Files>(rt: &R, name: &[u8], text: &mut [u8]) -> io::Result<usize
     Ok(done)
 }
 
-// The picture, written to the file that was named.
-fn write_file<R: Files>(rt: &R, name: &[u8], svg: &[u8]) -> io::Result<()> {
-    fs::write(rt, path(name)?, svg)
-}
+impl<'a, R: Files + AllocGlobal, O: Write, E: Write> Console<'a, R, O, E> {
+    // `refit: `, what is at fault, `: ` and the fault in words.
+    fn complain(&mut self, what: &[u8], words: &[u8]) -> io::Result<()> {
+        self.err.write_all(b"refit: ")?;
+        self.err.write_all(what)?;
+        self.err.write_all(b": ")?;
+        self.err.write_all(words)?;
+        self.err.write_all(b"\n")
+    }
 
-// The picture goes to the file that was named.
-fn save<R: Files + AllocGlobal, O: Write, E: Write>(
-    rt: &R,
-    to: &mut Ends<O, E>,
-    name: &[u8],
-    svg: &[u8],
-) -> io::Result<()> {
-    match write_file(rt, name, svg) {
-        Err(e) => fail(rt, to, name, e),
-        Ok(()) => {
-            to.out.write_all(b"\nThe picture is in ")?;
-            to.out.write_all(name)?;
-            to.out.write_all(b"\n")
-        }
+    // `refit: `, the file's name and the system's reason.
+    fn fail(&mut self, name: &[u8], error: io::Error) -> io::Result<()> {
+        let reason = format!(in self.rt.alloc(); "{error}")?;
+        self.complain(name, without_number(reason.as_str()).as_bytes())
     }
-}
 
-fn picture<R: Files + AllocGlobal, O: Write, E: Write>(
-    rt: &R,
-    to: &mut Ends<O, E>,
-    words: &[u8],
-    i: usize,
-    r: Outcome,
-    svg: &[u8],
-) -> io::Result<()> {
-    let p = r.picture;
-    let k = p.at;
-    if p.full {
-        return complain(to, b"--svg", b"the picture is too large; none was written");
+    fn complain_of_word(&mut self, e: OptionError<'_>) -> io::Result<()> {
+        let mut room = [0u8; 4096];
+        let mut words = Text::new(&mut room);
+        refit_options::options::fault(&mut words, e.fault);
+        self.complain(e.word, words.written())
     }
-    if k == 0 {
-        return complain(
-            to,
-            b"--svg",
-            b"no picture was written: there is no fit, or the readings span no range that can be drawn",
-        );
-    }
-    if k <= svg.len() {
-        let at = begin_of(words, i);
-        let end = end_from(words, at, 0);
-        save(rt, to, &words[at..end], &svg[0..k])?;
-    }
-    Ok(())
-}
 
-fn show<R: Files + AllocGlobal, O: Write, E: Write>(
-    rt: &R,
-    to: &mut Ends<O, E>,
-    words: &[u8],
-    o: Options,
-    r: Outcome,
-    out: &[u8],
-    svg: &[u8],
-) -> io::Result<()> {
-    let p = r.report;
-    let k = p.at;
-    if p.full {
-        return complain(to, b"report", b"it is too long to be printed");
+    fn complain_of_line(
+        &mut self,
+        name: &[u8],
+        line: Option<u64>,
+        fault: TableFault,
+    ) -> io::Result<()> {
+        let mut room = [0u8; 4096];
+        let mut words = Text::new(&mut room);
+        refit_options::words::line_fault(&mut words, line, fault);
+        self.complain(name, words.written())
     }
-    if k <= out.len() {
-        if let Err(e) = to.out.write_all(&out[0..k]) {
-            return fail(rt, to, b"standard output", e);
-        }
-    }
-    if o.svg != 0 {
-        picture(rt, to, words, o.svg, r, svg)?;
-    }
-    Ok(())
-}
 
-// The report and the picture of readings.
-fn refit<R: Files + AllocGlobal, O: Write, E: Write>(
-    rt: &R,
-    to: &mut Ends<O, E>,
-    words: &[u8],
-    o: Options,
-    given: [f64; 4],
-    example: bool,
-    name: &[u8],
-    text: &[u8],
-    n: usize,
-    canisters: usize,
-    doses: &[f64],
-    grams: &[f64],
-    groups: &[u64],
-    names: &[u64],
-) -> io::Result<()> {
-    let mut out = [0u8; 131072];
-    let mut svg = [0u8; 131072];
-    let r = refit_run::run(
-        o, example, text, n, canisters, doses, grams, groups, names, given, &mut out, &mut svg,
-    );
-    if r.fault != 0 {
-        return complain_of_line(to, name, 0, r.fault);
-    }
-    show(rt, to, words, o, r, &out, &svg)
-}
-
-fn from_text<R: Files + AllocGlobal, O: Write, E: Write>(
-    rt: &R,
-    to: &mut Ends<O, E>,
-    words: &[u8],
-    o: Options,
-    given: [f64; 4],
-    example: bool,
-    name: &[u8],
-    text: &[u8],
-) -> io::Result<()> {
-    let mut doses = [0.0; 512];
-    let mut grams = [0.0; 512];
-    let mut groups = [0u64; 512];
-    let mut names = [0u64; 64];
-    let t = read_table::read_table(text, &mut doses, &mut grams, &mut groups, &mut names);
-    if t.fault != 0 {
-        return complain_of_line(to, name, t.line, t.fault);
-    }
-    refit(
-        rt,
-        to,
-        words,
-        o,
-        given,
-        example,
-        name,
-        text,
-        t.count,
-        t.canisters,
-        &doses,
-        &grams,
-        &groups,
-        &names,
-    )
-}
-
-// The whole file, or the reason why it is not read.
-fn from_file<R: Files + AllocGlobal, O: Write, E: Write>(
-    rt: &R,
-    to: &mut Ends<O, E>,
-    words: &[u8],
-    o: Options,
-    given: [f64; 4],
-) -> io::Result<()> {
-    let at = begin_of(words, o.file);
-    let end = end_from(words, at, 0);
-    let name = &words[at..end];
-    let mut text = [0u8; 65537];
-    match read_file(rt, name, &mut text) {
-        Err(e) => fail(rt, to, name, e),
-        Ok(n) => {
-            if n > LONGEST {
-                return complain(
-                    to,
-                    name,
-                    b"the file is longer than 65536 bytes, or was not read whole",
-                );
+    fn print(&mut self, page: Page) -> io::Result<()> {
+        match page {
+            Page::Help => {
+                let mut room = [0u8; 65536];
+                let mut help = Text::new(&mut room);
+                refit_options::help::help(&mut help);
+                self.out.write_all(help.written())
             }
-            from_text(rt, to, words, o, given, false, name, &text[..n])
+            Page::Version => self.out.write_all(b"refit 0.1.0, of Kemroul\n"),
+        }
+    }
+
+    // The picture goes to the file that was named.
+    fn save(&mut self, name: &[u8], svg: &[u8]) -> io::Result<()> {
+        match path(name).and_then(|name| fs::write(self.rt, name, svg)) {
+            Err(e) => self.fail(name, e),
+            Ok(()) => {
+                self.out.write_all(b"\nThe picture is in ")?;
+                self.out.write_all(name)?;
+                self.out.write_all(b"\n")
+            }
+        }
+    }
+
+    fn picture(&mut self, name: &[u8], svg: &Text<'_>) -> io::Result<()> {
+        if svg.is_full() {
+            return self.complain(b"--svg", b"the picture is too large; none was written");
+        }
+        if svg.written().is_empty() {
+            return self.complain(
+                b"--svg",
+                b"no picture was written: there is no fit, or the readings span no range that can be drawn",
+            );
+        }
+        self.save(name, svg.written())
+    }
+
+    fn show(&mut self, svg_name: Option<&[u8]>, out: &Text<'_>, svg: &Text<'_>) -> io::Result<()> {
+        if out.is_full() {
+            return self.complain(b"report", b"it is too long to be printed");
+        }
+        if let Err(e) = self.out.write_all(out.written()) {
+            return self.fail(b"standard output", e);
+        }
+        match svg_name {
+            Some(name) => self.picture(name, svg),
+            None => Ok(()),
+        }
+    }
+
+    // The report and the picture of readings.
+    fn refit(
+        &mut self,
+        fit: Fit<'_>,
+        given: [f64; 4],
+        source: Source<'_>,
+        readings: Readings<'_>,
+    ) -> io::Result<()> {
+        let mut out = [0u8; 131072];
+        let mut svg = [0u8; 131072];
+        let mut report = Text::new(&mut out);
+        let mut picture = Text::new(&mut svg);
+        let drawn = fit.svg.is_some();
+        match refit_run::run(
+            fit.settings,
+            source.example,
+            drawn,
+            readings,
+            given,
+            &mut report,
+            &mut picture,
+        ) {
+            Err(fault) => self.complain_of_line(source.name, None, fault),
+            Ok(()) => self.show(fit.svg, &report, &picture),
+        }
+    }
+
+    fn from_text(&mut self, fit: Fit<'_>, given: [f64; 4], source: Source<'_>) -> io::Result<()> {
+        let mut doses = [0.0; 512];
+        let mut grams = [0.0; 512];
+        let mut groups = [0; 512];
+        let mut names = [Span { start: 0, stop: 0 }; 32];
+        match read_table::read_table(source.text, &mut doses, &mut grams, &mut groups, &mut names) {
+            Err(e) => self.complain_of_line(source.name, Some(e.read.lines), e.fault),
+            Ok(read) => {
+                let readings = Readings {
+                    text: source.text,
+                    doses: &doses[..read.count],
+                    grams: &grams[..read.count],
+                    group: &groups[..read.count],
+                    names: &names,
+                    canisters: read.canisters,
+                };
+                self.refit(fit, given, source, readings)
+            }
+        }
+    }
+
+    // The whole file, or the reason why it is not read.
+    fn from_file(&mut self, fit: Fit<'_>, given: [f64; 4], name: &[u8]) -> io::Result<()> {
+        let mut text = [0u8; 65537];
+        match read_file(self.rt, name, &mut text) {
+            Err(e) => self.fail(name, e),
+            Ok(n) if n > LONGEST => self.complain(
+                name,
+                b"the file is longer than 65536 bytes, or was not read whole",
+            ),
+            Ok(n) => {
+                let source = Source {
+                    name,
+                    text: &text[..n],
+                    example: false,
+                };
+                self.from_text(fit, given, source)
+            }
+        }
+    }
+
+    fn fits(&mut self, fit: Fit<'_>) -> io::Result<()> {
+        let given = match fit.start {
+            None => [0.0; 4],
+            Some(word) => match read_starts(word, fit.settings.curve.n_params()) {
+                Some(starts) => starts,
+                None => {
+                    return self.complain_of_word(OptionError {
+                        word,
+                        fault: OptionFault::WrongStarts,
+                    });
+                }
+            },
+        };
+        match fit.file {
+            Some(name) => self.from_file(fit, given, name),
+            None => {
+                let source = Source {
+                    name: b"the example",
+                    text: ORANGE,
+                    example: true,
+                };
+                self.from_text(fit, given, source)
+            }
         }
     }
 }
 
-// R's data set Orange.
-fn from_example<R: Files + AllocGlobal, O: Write, E: Write>(
-    rt: &R,
-    to: &mut Ends<O, E>,
-    words: &[u8],
-    o: Options,
-    given: [f64; 4],
-) -> io::Result<()> {
-    from_text(
-        rt,
-        to,
-        words,
-        o,
-        given,
-        true,
-        b"the example",
-        b"# R's data set Orange: the age in days (dose), the circumference in mm (grams), the tree (canister).\nage,circumference,tree\n118,30,1\n484,58,1\n664,87,1\n1004,115,1\n1231,120,1\n1372,142,1\n1582,145,1\n118,33,2\n484,69,2\n664,111,2\n1004,156,2\n1231,172,2\n1372,203,2\n1582,203,2\n118,30,3\n484,51,3\n664,75,3\n1004,108,3\n1231,115,3\n1372,139,3\n1582,140,3\n118,32,4\n484,62,4\n664,112,4\n1004,167,4\n1231,179,4\n1372,209,4\n1582,214,4\n118,30,5\n484,49,5\n664,81,5\n1004,125,5\n1231,142,5\n1372,174,5\n1582,177,5\n",
-    )
+// What the words ask for, each of which ends with a 0.
+fn asked(words: &[u8]) -> Result<Command<'_>, OptionError<'_>> {
+    words
+        .split_inclusive(|b| *b == 0)
+        .try_fold(Asked::nothing(), |asked, word| {
+            asked.next(word.strip_suffix(&[0]).unwrap_or(word))
+        })?
+        .last()
 }
 
-// The start values given by hand: as many as the curve has values.
-fn given_in(words: &[u8], o: Options) -> Starts {
-    if o.start == 0 {
-        return Starts {
-            count: curves::mean_fn::n_params(o.code),
-            values: [0.0; 4],
-        };
-    }
-    let at = begin_of(words, o.start);
-    let end = end_from(words, at, 0);
-    read_starts(&words[at..end])
-}
-
-// The words each end with a 0. What is asked for goes to `out`, a fault to `err`.
+// What is asked for goes to `out`, a fault to `err`.
 pub fn command<R: Files + AllocGlobal, O: Write + Drop, E: Write + Drop>(
     rt: &R,
     words: &[u8],
     out: O,
     err: E,
 ) -> io::Result<()> {
-    let mut ends = Ends { out, err };
-    let to = &mut ends;
-    let o = words::options(words);
-    if o.fault != 0 {
-        return complain_of_word(to, words, o.at, o.fault);
+    let mut console = Console { rt, out, err };
+    match asked(words) {
+        Err(e) => console.complain_of_word(e),
+        Ok(Command::Prints(page)) => console.print(page),
+        Ok(Command::Fits(fit)) => console.fits(fit),
     }
-    if o.prints == 1 {
-        return print_help(to);
-    }
-    if o.prints == 2 {
-        return to.out.write_all(b"refit 0.1.0, of Kemroul\n");
-    }
-    let s = given_in(words, o);
-    if s.count != curves::mean_fn::n_params(o.code) {
-        return complain_of_word(to, words, o.start, 10);
-    }
-    let given = s.values;
-    if o.file == 0 {
-        return from_example(rt, to, words, o, given);
-    }
-    from_file(rt, to, words, o, given)
 }
 
 #[cfg(test)]
@@ -359,14 +286,15 @@ mod tests {
     // The name and the system's reason, without the number that std puts after it.
     #[test]
     fn tells_of_a_missing_file(rt: HostRuntime) -> Result<(), Fail> {
-        let mut to = Ends {
+        let mut to = Console {
+            rt: &rt,
             out: Vec::new(rt.alloc()),
             err: Vec::new(rt.alloc()),
         };
         let mut text = [0u8; 16];
         match read_file(&rt, b"no/such/file", &mut text) {
             Ok(_) => assert!(rt; false, "a file that is not there was read"),
-            Err(e) => fail(&rt, &mut to, b"no/such/file", e)?,
+            Err(e) => to.fail(b"no/such/file", e)?,
         }
         assert!(rt; to.out.is_empty());
         assert!(rt;

@@ -9,14 +9,8 @@ use std::{fs, io};
 // A command line whose words each end with a 0, with spaces for the zeros.
 fn headed(mut out: Stdout, words: &[u8]) -> io::Result<()> {
     out.write_all(b"\n$ refit ")?;
-    let mut i = 0usize;
-    while i < words.len() {
-        if words[i] == 0 {
-            out.write_all(b" ")?;
-        } else {
-            out.write_all(&[words[i]])?;
-        }
-        i += 1;
+    for b in words {
+        out.write_all(&[if *b == 0 { b' ' } else { *b }])?;
     }
     out.write_all(b"\n")
 }
@@ -29,8 +23,7 @@ fn shown<R: Files + AllocGlobal>(rt: &R, out: Stdout, words: &[u8]) -> io::Resul
 // Of the picture that a run wrote, at most so many bytes.
 fn picture<R: Files + AllocGlobal>(rt: &R, mut out: Stdout, most: usize) -> io::Result<()> {
     let svg = fs::read(rt, "picture.svg")?;
-    let k = text_buffer::lesser(svg.len(), most);
-    out.write_all(&svg.as_slice()[0..k])
+    out.write_all(&svg.as_slice()[..svg.len().min(most)])
 }
 
 // docs/fits-beside-r.md has these.

@@ -3,8 +3,9 @@
 #![tactic(auto)]
 
 use read_decimal::read_decimal;
+use replay_cases::lines::Lines;
 use std::io;
-use std::io::{Read, Write};
+use std::io::{BufReader, Write};
 
 fn answer<W: Write>(out: &mut W, line: &[u8]) -> io::Result<()> {
     match read_decimal(line) {
@@ -13,20 +14,14 @@ fn answer<W: Write>(out: &mut W, line: &[u8]) -> io::Result<()> {
     }
 }
 
-fn each<R: Read, W: Write>(input: &mut R, out: &mut W, buf: &mut [u8]) -> io::Result<()> {
-    let mut run = replay_cases::lines::standard_input();
-    while run.turns > 0 {
-        run = replay_cases::lines::advance(input, buf, run);
-        if run.here {
-            let start = run.start;
-            let end = run.end;
-            answer(out, &buf[start..end])?;
+fn main(rt: HostRuntime) -> io::Result<()> {
+    let mut out = rt.stdout();
+    let input = BufReader::new(rt.alloc(), rt.stdin())?;
+    // The range's end shows that the loop ends; no input has so many lines.
+    for (_, line) in (1..u64::MAX).zip(Lines::new(rt.alloc(), input)) {
+        if let Ok(line) = line {
+            answer(&mut out, line.as_slice())?;
         }
     }
     Ok(())
-}
-
-fn main(rt: HostRuntime) -> io::Result<()> {
-    let mut buf = [0u8; 65536];
-    each(&mut rt.stdin(), &mut rt.stdout(), &mut buf)
 }
