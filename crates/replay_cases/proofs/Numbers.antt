@@ -1,11 +1,8 @@
 -- A word's digits read from place i on, after those that make n. Assumes nothing.
 use Rattle.std.proofs.Common.{◌≡◌, refl, ap, ℕ, suc, ◌+◌, ◌*◌, ◌^◌, ◌<◌, ◌≤◌, Bool, true, false, ◌&&◌, List, [], ◌∷◌, length, drop, get_or, Some, None, arith, add-one, lt-ltb, le-ltb, drop-cons, unwrap_or, drop_of_length-le}
+use Rattle.std.proofs.Math.Bool.{and-false}
 use Rattle.std.proofs.Math.Nat.{le_refl, mul-le-mul_left, mul-one}
 use Rattle.replay_cases.specs.Digits.{digit_of, is_below, are_digits, value_from, number_from}
-
-and_false : (b : Bool) → (b && false) ≡ false
-and_false true = refl
-and_false false = refl
 
 -- digits that are appended make a number no smaller
 grows : (base n : ℕ) (w : List ℕ) → 0 < base → n ≤ value_from base n w
@@ -34,7 +31,7 @@ module _ (base n : ℕ) (w : List ℕ) (i : ℕ) (h : i < length w) where
     unfolding number_from
     too_large q =
         let g : n * base + d ≤ value_from base (n * base + d) (drop (i + 1) w) = grows base (n * base + d) (drop (i + 1) w) (omega arith) in
-        rw (← digit_more) (rw (le-ltb (value_from base (n * base + d) (drop (i + 1) w)) (2 ^ 64) (omega arith), and_false) refl)
+        rw (← digit_more) (rw (le-ltb (value_from base (n * base + d) (drop (i + 1) w)) (2 ^ 64) (omega arith), and-false) refl)
 
 pub no_more : (base n : ℕ) (w : List ℕ) (i : ℕ) → n < 2 ^ 64 → length w ≤ i → Some n ≡ number_from base n (drop i w)
 unfolding number_from are_digits value_from
