@@ -1,5 +1,5 @@
 -- Values compared with the words that are read, one by one. Assumes nothing.
-use Rattle.std.proofs.Common.{◌≡◌, refl, sym, ap, ◌∙◌, ℕ, suc, ◌+◌, ◌-◌, ◌<◌, ◌≤◌, Bool, true, false, ◌&&◌, List, ◌∷◌, length, drop, get_or, Option, Some, None, option_map, option_and_then, arith, add-one, drop-cons, drop_of_length-le}
+use Rattle.std.proofs.Common.{◌≡◌, refl, sym, ap, ◌∙◌, ℕ, suc, ◌+◌, ◌-◌, ◌<◌, ◌≤◌, Bool, ◌&&◌, List, ◌∷◌, length, drop, get_or, Option, Some, None, option_map, option_and_then, arith, add-one, drop-cons, drop_of_length-le}
 use Rattle.std.proofs.Math.Bool.{and-true, and_assoc}
 use Rattle.math.specs.Lists.{same_lists}
 use Rattle.replay_cases.specs.Words.{word_of, after_word, after_words, elements, said}
@@ -56,3 +56,5 @@ module _ {A : Type 0} (value : List ℕ → Option A) (same : A → A → Bool) 
     pub saying_ends_at : left ≡ after_words (length values) left₀
     unfolding after_words
     saying_ends_at = rw none_left at s.place
+
+pub ruleset saying = (saying_stops, saying_goes_on, saying_ends, saying_ends_at)
