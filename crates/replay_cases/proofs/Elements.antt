@@ -48,3 +48,10 @@ module _ {A : Type 0} (value : List ℕ → Option A) (left₀ left : Option (Li
     pub reading_ends_at : left ≡ after_words len left₀
     unfolding after_words
     reading_ends_at = rw none_left at r.place
+
+-- one word, and then n
+pub after_one_more : (n : ℕ) (left : Option (List ℕ)) → after_words (n + 1) left ≡ after_words n (after_word left)
+unfolding after_words
+after_one_more n left = rw (add-one n)
+
+pub ruleset reading = (reading_stops, reading_goes_on, reading_ends, reading_ends_at)

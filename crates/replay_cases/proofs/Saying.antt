@@ -1,12 +1,8 @@
 -- Values compared with the words that are read, one by one. Assumes nothing.
-use Rattle.std.proofs.Common.{◌≡◌, refl, sym, ap, ◌∙◌, ℕ, suc, ◌+◌, ◌-◌, ◌<◌, ◌≤◌, Bool, true, false, ◌&&◌, List, ◌∷◌, length, drop, get_or, Option, Some, None, option_map, option_and_then, arith, add-one, drop-cons, drop_of_length-le}
-use Rattle.std.proofs.Math.Bool.{and_assoc}
+use Rattle.std.proofs.Common.{◌≡◌, refl, sym, ap, ◌∙◌, ℕ, suc, ◌+◌, ◌-◌, ◌<◌, ◌≤◌, Bool, ◌&&◌, List, ◌∷◌, length, drop, get_or, Option, Some, None, option_map, option_and_then, arith, add-one, drop-cons, drop_of_length-le}
+use Rattle.std.proofs.Math.Bool.{and-true, and_assoc}
 use Rattle.math.specs.Lists.{same_lists}
 use Rattle.replay_cases.specs.Words.{word_of, after_word, after_words, elements, said}
-
-and_true : (a : Bool) → (a && true) ≡ a
-and_true true = refl
-and_true false = refl
 
 -- the words of the first i values have been read, and `so_far` says whether they said them; left₀ is what was left before the first
 pub record Saying {A : Type 0} (value : List ℕ → Option A) (same : A → A → Bool) (left₀ : Option (List ℕ)) (values : List A) (left : Option (List ℕ)) (so_far : Bool) (i : ℕ) : Type 0 where
@@ -55,8 +51,10 @@ module _ {A : Type 0} (value : List ℕ → Option A) (same : A → A → Bool) 
 
     pub saying_ends : Some so_far ≡ said value same values left₀
     unfolding elements same_lists
-    saying_ends = sym (ap Some (and_true so_far)) ∙ (rw (none_left, drop_of_length-le values h) at s.verdict)
+    saying_ends = sym (ap Some (and-true so_far)) ∙ (rw (none_left, drop_of_length-le values h) at s.verdict)
 
     pub saying_ends_at : left ≡ after_words (length values) left₀
     unfolding after_words
     saying_ends_at = rw none_left at s.place
+
+pub ruleset saying = (saying_stops, saying_goes_on, saying_ends, saying_ends_at)

@@ -21,6 +21,7 @@ pub fn digit(b: u8) -> Option<u64>
 
 // The digits of w in the base. A byte that is no digit below the base is a fault, and so is a
 // number of 2^64 or more.
+#[tactic(auto, using(crate::proofs::Numbers::digits))]
 pub fn in_base(w: &[u8], base: u64) -> Option<u64>
     ensures { result ≡ number_of base w.now }
 {
@@ -51,6 +52,7 @@ pub fn decimal(w: &[u8]) -> Option<u64>
 }
 
 // A NaN is the word `nan`; any other float its bits in 16 digits.
+
 pub fn float_of(w: &[u8]) -> Option<f64>
     ensures { result ≡ float_of w.now }
 {

@@ -15,6 +15,7 @@ pub fn kept() -> f64
 pub const KEPT: u64 = 987654321;
 
 // Whether the stored list begins with these values, bit for bit.
+#[tactic(auto, using(crate::proofs::Equality::too_short), unfolding(crate::specs::Lent::begins_with))]
 pub fn begins_with(stored: &[f64], values: &[f64]) -> bool
     ensures { result ≡ begins_with stored.now values.now }
 {

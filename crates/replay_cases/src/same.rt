@@ -21,6 +21,7 @@ fn same_pairs(a: &[f64], b: &[f64]) -> bool
 }
 
 // Whether two lists of floats have the same bits.
+#[tactic(auto, using(crate::proofs::Equality::unequal_lengths, crate::proofs::Equality::by_pairs))]
 pub fn same_floats(a: &[f64], b: &[f64]) -> bool
     ensures { result ≡ same_lists same_bits a.now b.now }
 {

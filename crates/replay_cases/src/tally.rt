@@ -1,5 +1,6 @@
 // What a replay counts and prints.
-ghost use Rattle.std.specs.Prelude.{◌≡◌, ◌<◌, ◌≤◌, vec_len};
+ghost use Rattle.std.specs.Prelude.{◌≡◌, ◌+◌, ◌≤◌, min, if◌then◌else◌, Some, None, IfOk, length, vec_len};
+ghost use Rattle.std.specs.Option.{option_or};
 ghost use Rattle.replay_cases.specs.Tally.{verdict_of};
 
 use std::alloc::{AllocError, Global};
@@ -35,7 +36,11 @@ pub struct Operation {
 }
 
 impl Operation {
-    pub fn new(name: &'static str) -> Self {
+    pub fn new(name: &'static str) -> Self
+        ensures lines { result.lines ≡ 0 }
+        ensures agree { result.agree ≡ 0 }
+        ensures first { result.first_differs ≡ None }
+    {
         Operation {
             name,
             lines: 0,
@@ -45,7 +50,11 @@ impl Operation {
     }
 
     // Line `number` is one of this operation.
-    fn count(&mut self, number: u64, agrees: bool) {
+    fn count(&mut self, number: u64, agrees: bool)
+        ensures lines { self.new.lines ≡ min (self.old.lines + 1) u64.MAX }
+        ensures agree { self.new.agree ≡ (if agrees then min (self.old.agree + 1) u64.MAX else self.old.agree) }
+        ensures first { self.new.first_differs ≡ (if agrees then self.old.first_differs else option_or self.old.first_differs (Some number)) }
+    {
         self.lines = self.lines.saturating_add(1);
         if agrees {
             self.agree = self.agree.saturating_add(1);
@@ -76,7 +85,12 @@ pub struct Tally {
 }
 
 impl Tally {
-    pub fn new(alloc: Global, names: &[&'static str]) -> Result<Self, AllocError> {
+    pub fn new(alloc: Global, names: &[&'static str]) -> Result<Self, AllocError>
+        ensures operations { IfOk result (λ t. vec_len t.operations ≡ length names.now) }
+        ensures malformed { IfOk result (λ t. t.malformed ≡ 0) }
+        ensures first { IfOk result (λ t. t.first_malformed ≡ None) }
+        ensures unread { IfOk result (λ t. t.unread ≡ 0) }
+    {
         let mut operations = Vec::new(alloc);
         for name in names {
             operations.push(Operation::new(name))?;
@@ -90,7 +104,10 @@ impl Tally {
     }
 
     // The line of this number, counted.
-    pub fn count(&mut self, number: u64, verdict: Verdict) {
+    pub fn count(&mut self, number: u64, verdict: Verdict)
+        ensures operations { vec_len self.new.operations ≡ vec_len self.old.operations }
+        ensures unread { self.new.unread ≡ self.old.unread }
+    {
         match verdict {
             Verdict::Agrees(op) if op < self.operations.len() => {
                 self.operations[op].count(number, true)
@@ -105,7 +122,12 @@ impl Tally {
         }
     }
 
-    pub fn count_unread(&mut self) {
+    pub fn count_unread(&mut self)
+        ensures operations { self.new.operations ≡ self.old.operations }
+        ensures malformed { self.new.malformed ≡ self.old.malformed }
+        ensures first { self.new.first_malformed ≡ self.old.first_malformed }
+        ensures unread { self.new.unread ≡ min (self.old.unread + 1) u64.MAX }
+    {
         self.unread = self.unread.saturating_add(1);
     }
 }

@@ -134,6 +134,7 @@ impl<'a> Words<'a> {
     }
 
     // As many values as `out` has places, put there.
+    #[tactic(auto, using(crate::proofs::Elements::reading))]
     pub fn values<T: Value>(&mut self, out: &mut [T]) -> Option<()>
         ensures value { option_map (λ _. out.new) result ≡ elements T.value_of (length out.old) self.old }
         ensures rest { OnSome result (self.new ≡ after_words (length out.old) self.old) }
@@ -145,7 +146,7 @@ impl<'a> Words<'a> {
     }
 
     // A list: its length, which must be at most that of `out`, and its elements, put at the start of `out`.
-    #[tactic(auto, unfolding(crate::specs::Words::list_of))]
+    #[tactic(auto, using(crate::proofs::Elements::after_one_more), unfolding(crate::specs::Words::list_of))]
     pub fn list<'b, T: Value>(&mut self, out: &'b mut [T]) -> Option<&'b [T]>
         ensures value { option_map (λ l. l.now) result ≡ list_of T.value_of (length out.old) self.old }
         ensures rest { IfSome result (λ l. self.new ≡ after_words (length l.now + 1) self.old) }
@@ -169,6 +170,7 @@ impl<'a> Words<'a> {
     }
 
     // Whether the next words say these values.
+    #[tactic(auto, using(crate::proofs::Saying::saying))]
     pub fn says_each<T: Value>(&mut self, values: &[T]) -> Option<bool>
         ensures value { result ≡ said T.value_of T.same values.now self.old }
         ensures rest { OnSome result (self.new ≡ after_words (length values.now) self.old) }
@@ -181,7 +183,7 @@ impl<'a> Words<'a> {
     }
 
     // Whether the next words say this list; a list of another length is a fault.
-    #[tactic(auto, unfolding(crate::specs::Words::said_list))]
+    #[tactic(auto, using(crate::proofs::Elements::after_one_more), unfolding(crate::specs::Words::said_list))]
     pub fn says_list<T: Value>(&mut self, values: &[T]) -> Option<bool>
         ensures value { result ≡ said_list T.value_of T.same values.now self.old }
         ensures rest { OnSome result (self.new ≡ after_words (length values.now + 1) self.old) }

@@ -15,59 +15,48 @@
 // and what the call answers and writes must be the numbers and have the bits of the floats.
 #![tactic(auto)]
 
-mod case;
-mod criteria;
-mod fits;
-mod lists;
-mod searches;
+mod judges;
 
-ghost use Rattle.replay_cases.specs.Tally.{Sound};
-
-use crate::case::judge_readings;
-use replay_cases::cursor::{begin, named};
-use replay_cases::tally::{Tally, Verdict};
+use crate::judges::{judge_criterion, judge_fit, judge_search};
+use fit_refusals::Problem;
+use replay_cases::replay::replay_input;
+use replay_cases::words::Words;
 use std::io;
-use std::io::Read;
 
-fn judge(line: &[u8]) -> Verdict {
-    let fit = named(line, begin(), b"fit");
-    if fit.ok {
-        return judge_readings(0, line, fit);
+// Lists that are too long are malformed: more than 520 readings, 80 effects in an answer, 8 of all else.
+fn judge(name: &str, words: &mut Words<'_>) -> Option<bool> {
+    let mut doses = [0.0; 520];
+    let mut grams = [0.0; 520];
+    let mut group = [0; 520];
+    let mut effects = [0; 8];
+    let mut starts = [0.0; 8];
+    let mut lower = [0.0; 8];
+    let mut upper = [0.0; 8];
+    let mut group_lower = [0.0; 8];
+    let mut group_upper = [0.0; 8];
+    // A search reads no theta.
+    let case = Problem {
+        code: words.value()?,
+        doses: words.list(&mut doses)?,
+        grams: words.list(&mut grams)?,
+        group: words.list(&mut group)?,
+        groups: words.value()?,
+        effects: words.list(&mut effects)?,
+        starts: words.list(&mut starts)?,
+        lower: words.list(&mut lower)?,
+        upper: words.list(&mut upper)?,
+        group_lower: words.list(&mut group_lower)?,
+        group_upper: words.list(&mut group_upper)?,
+        theta: &[],
+    };
+    match name {
+        "fit" => judge_fit(words, case),
+        "criterion" => judge_criterion(words, case),
+        "search" => judge_search(words, case),
+        _ => None,
     }
-    let criterion = named(line, begin(), b"criterion");
-    if criterion.ok {
-        return judge_readings(1, line, criterion);
-    }
-    let search = named(line, begin(), b"search");
-    if search.ok {
-        return judge_readings(2, line, search);
-    }
-    Verdict::Malformed
-}
-
-// Every line of standard input, judged and counted.
-fn replay<R: Read>(input: &mut R, buf: &mut [u8]) -> Tally
-    ensures { Sound result }
-{
-    let mut run = replay_cases::lines::standard_input();
-    let mut tally = replay_cases::tally::none();
-    while run.turns > 0 {
-        run = replay_cases::lines::advance(input, buf, run);
-        if run.here {
-            let start = run.start;
-            let end = run.end;
-            tally = replay_cases::tally::counted(tally, judge(&buf[start..end]), run.lines);
-        }
-    }
-    replay_cases::tally::at_end(tally, run)
 }
 
 fn main(rt: HostRuntime) -> io::Result<()> {
-    let mut buf = [0u8; 65536];
-    let tally = replay(&mut rt.stdin(), &mut buf);
-    let mut out = rt.stdout();
-    replay_cases::tally::print_operation(&mut out, tally, 0, b"fit")?;
-    replay_cases::tally::print_operation(&mut out, tally, 1, b"criterion")?;
-    replay_cases::tally::print_operation(&mut out, tally, 2, b"search")?;
-    replay_cases::tally::print_malformed(&mut out, tally)
+    replay_input(&rt, &["fit", "criterion", "search"], judge)
 }

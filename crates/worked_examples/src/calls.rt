@@ -1,127 +1,94 @@
 // The calls whose sizes are weighed, of curve 3 from 8, 1: n of the readings in m groups, one effect at the first value, 5 rounds
 // at most. The first value has the bounds 1 and 20, the second 1 and `top`, the groups none.
 use crate::readings::{in_turn, rising};
+use criterion::Profile;
+use fit::Fitted;
+use fit_refusals::Problem;
+use golden::Found;
+use refusal::Refusal;
+use replay_cases::lent::{begins_with, kept};
+use self_start::self_start;
 
-pub fn fit_of(
+const ROUNDS: u64 = 5;
+
+const POINTS: u64 = 3;
+
+const NARROWINGS: u64 = 40;
+
+// What a call answers, and the lists that it is lent as it leaves them; the effects are the first m.
+#[derive(Clone, Copy)]
+pub struct Called<T> {
+    pub answer: Result<T, Refusal>,
+    pub values: [f64; 2],
+    pub effects: [f64; 33],
+}
+
+// Whether a list holds what lists hold before a call.
+pub fn all_kept(list: &[f64]) -> bool {
+    begins_with(&[kept(); 64], list)
+}
+
+// More than 520 readings or 33 groups have no room.
+fn call_at<T, C: FnOnce(&Problem<'_>, &mut [f64], &mut [f64]) -> Result<T, Refusal>>(
     n: usize,
     m: usize,
     top: f64,
-    values: &mut [f64],
-    effects: &mut [f64],
-) -> fit::Answer {
+    call: C,
+) -> Option<Called<T>>
+    requires { C.IsAlwaysCallable call }
+{
     let doses = rising(1.0);
     let grams = rising(0.015625);
     let group = in_turn(m);
-    let slots = [0usize];
-    let starts = [8.0, 1.0];
-    let lower = [1.0, 1.0];
-    let upper = [20.0, top];
-    let low = [-1.0 / 0.0, -1.0 / 0.0];
-    let high = [1.0 / 0.0, 1.0 / 0.0];
-    let theta = [0.5];
-    if n > 520 {
-        return fit::Answer::Refused(0);
-    }
-    fit::fit(
-        3,
-        &doses[0..n],
-        &grams[0..n],
-        &group[0..n],
-        m,
-        &slots,
-        &starts,
-        &lower,
-        &upper,
-        &low,
-        &high,
-        &theta,
-        5,
+    let mut values = [kept(); 2];
+    let mut effects = [kept(); 33];
+    let problem = Problem {
+        code: 3,
+        doses: doses.get(..n)?,
+        grams: grams.get(..n)?,
+        group: group.get(..n)?,
+        groups: m,
+        effects: &[0],
+        starts: &[8.0, 1.0],
+        lower: &[1.0, 1.0],
+        upper: &[20.0, top],
+        group_lower: &[f64::NEG_INFINITY; 2],
+        group_upper: &[f64::INFINITY; 2],
+        theta: &[0.5],
+    };
+    let answer = call(&problem, &mut values, effects.get_mut(..m)?);
+    Some(Called {
+        answer,
         values,
         effects,
-    )
+    })
 }
 
-// With REML and 3 points of quadrature.
-pub fn criterion_of(
-    n: usize,
-    m: usize,
-    top: f64,
-    values: &mut [f64],
-    effects: &mut [f64],
-) -> criterion::Answer {
-    let doses = rising(1.0);
-    let grams = rising(0.015625);
-    let group = in_turn(m);
-    let slots = [0usize];
-    let starts = [8.0, 1.0];
-    let lower = [1.0, 1.0];
-    let upper = [20.0, top];
-    let low = [-1.0 / 0.0, -1.0 / 0.0];
-    let high = [1.0 / 0.0, 1.0 / 0.0];
-    let theta = [0.5];
-    if n > 520 {
-        return criterion::Answer::Refused(0);
-    }
-    criterion::criterion(
-        3,
-        &doses[0..n],
-        &grams[0..n],
-        &group[0..n],
-        m,
-        &slots,
-        &starts,
-        &lower,
-        &upper,
-        &low,
-        &high,
-        &theta,
-        5,
-        true,
-        3,
-        values,
-        effects,
-    )
+pub fn fit(n: usize, m: usize, top: f64) -> Option<Called<Fitted>> {
+    call_at(n, m, top, |problem, values, effects| {
+        fit::fit(problem, ROUNDS, values, effects)
+    })
 }
 
-// With REML, 3 points of quadrature and 40 narrowings at most.
-pub fn search_of(n: usize, m: usize, top: f64) -> golden::Answer {
-    let doses = rising(1.0);
-    let grams = rising(0.015625);
-    let group = in_turn(m);
-    let slots = [0usize];
-    let starts = [8.0, 1.0];
-    let lower = [1.0, 1.0];
-    let upper = [20.0, top];
-    let low = [-1.0 / 0.0, -1.0 / 0.0];
-    let high = [1.0 / 0.0, 1.0 / 0.0];
-    if n > 520 {
-        return golden::Answer::Refused(0);
-    }
-    golden::search(
-        3,
-        &doses[0..n],
-        &grams[0..n],
-        &group[0..n],
-        m,
-        &slots,
-        &starts,
-        &lower,
-        &upper,
-        &low,
-        &high,
-        5,
-        true,
-        3,
-        40,
-    )
+// With REML.
+pub fn criterion(n: usize, m: usize, top: f64) -> Option<Called<Profile>> {
+    call_at(n, m, top, |problem, values, effects| {
+        criterion::criterion(problem, ROUNDS, true, POINTS, values, effects)
+    })
 }
 
-// Curve 1 from n readings.
-pub fn start_of(n: usize, values: &mut [f64]) -> self_start::Answer {
+// With REML. A search is lent no lists.
+pub fn search(n: usize, m: usize, top: f64) -> Option<Called<Found>> {
+    call_at(n, m, top, |problem, _values, _effects| {
+        golden::search(problem, ROUNDS, true, POINTS, NARROWINGS)
+    })
+}
+
+// The start of curve 1 from n readings, and its list.
+pub fn start(n: usize) -> Option<(Result<(), Refusal>, [f64; 3])> {
     let doses = rising(1.0);
     let grams = rising(0.015625);
-    if n > 520 {
-        return self_start::Answer::Refused(0);
-    }
-    self_start::self_start(1, &doses[0..n], &grams[0..n], values)
+    let mut values = [kept(); 3];
+    let answer = self_start(1, doses.get(..n)?, grams.get(..n)?, &mut values);
+    Some((answer, values))
 }

@@ -2,29 +2,27 @@
 // each, of which a call is lent as many as it is to have.
 ghost use Rattle.std.specs.Prelude.{◌≡◌, length};
 
-pub fn rising(step: f64) -> [f64; 520]
+pub const READINGS: usize = 520;
+
+pub fn rising(step: f64) -> [f64; READINGS]
     ensures { 520 ≡ length result }
 {
-    let mut out = [0.0; 520];
+    let mut out = [0.0; READINGS];
     let mut x = 1.0;
-    for i in 0..520 {
-        out[i] = x;
-        x = x + step;
+    for place in out.iter_mut() {
+        *place = x;
+        x += step;
     }
     out
 }
 
-// The group of reading i.
-fn turn(i: usize, groups: usize) -> usize {
-    if groups == 0 { 0 } else { i % groups }
-}
-
-pub fn in_turn(groups: usize) -> [usize; 520]
+// Reading i is of group i, i less the number of groups, .., whichever is one.
+pub fn in_turn(groups: usize) -> [usize; READINGS]
     ensures { 520 ≡ length result }
 {
-    let mut out = [0usize; 520];
-    for i in 0..520 {
-        out[i] = turn(i, groups);
+    let mut out = [0; READINGS];
+    for (i, group) in out.iter_mut().enumerate() {
+        *group = i.checked_rem(groups).unwrap_or(0);
     }
     out
 }

@@ -1,5 +1,5 @@
 -- Document 01's marked weighings: one table, in the document's order, under one theorem. Assumes nothing.
-use Rattle.std.specs.Prelude.{ℕ, ◌^◌, ◌≡◌, refl, false, get_or, take, replicate, Float}
+use Rattle.std.specs.Prelude.{ℕ, ◌^◌, ◌≡◌, refl, false, get_or, take, replicate, Option, Some, None, Float}
 use mathlib.Core.List.{List, [], ◌∷◌, map, flatten}
 use Rattle.std.specs.Float.{nan, inf}
 use Rattle.std.specs.Float.Ieee.{round}
@@ -7,8 +7,6 @@ use Rattle.math.specs.Rationals.{over, minus, num}
 use Rattle.curves.specs.MeanFn.{n_params_of}
 use Rattle.curves.specs.Curve.{curve_of}
 use Rattle.curves.specs.laws.Computes.{curve_computes}
-use Rattle.quadrature.specs.declared.orders.Order.{Order}
-use Rattle.quadrature.specs.declared.orders.Order.TheVariants.{None, Points}
 use Rattle.quadrature.specs.Orders.{order_of}
 use Rattle.re_cov.specs.ReCov.{inverse_of, penalty_of}
 use Rattle.re_cov.specs.laws.Computes.{re_cov_computes}
@@ -27,9 +25,9 @@ pub data Question : Type 0 where
   start : (code : ℕ) (doses grams : List Float) → Question
 
 -- none is no float
-unfoldable pub points : Order → List Float
+unfoldable pub points : Option ℕ → List Float
 points None = []
-points (Points n) = num n ∷ []
+points (Some n) = num n ∷ []
 
 -- what the definition gives; a curve that refuses gives NaNs, and a start that refuses leaves the NaNs that it is lent
 unfoldable pub asked : Question → List Float
