@@ -3,7 +3,6 @@ use Rattle.std.specs.Prelude.{ℕ, Bool, false, cond, List, [], ◌∷◌, eqb, 
 use Rattle.math.specs.Basic.{mul}
 use Rattle.math.specs.Sqrt.{sqrt_of}
 use Rattle.refusal.specs.Refusal.{number_of}
-use Rattle.curves.specs.MeanFn.{code_of}
 use Rattle.text_buffer.specs.Text.{joined}
 use Rattle.text_lines.specs.Lines.{filled}
 use Rattle.svg_axes.specs.Subject.{Shown}

@@ -3,7 +3,7 @@
 
 pub mod beginning;
 
-ghost use Rattle.std.specs.Prelude.{◌≡◌, cond, []};
+ghost use Rattle.std.specs.Prelude.{◌≡◌};
 ghost use Rattle.curves.specs.MeanFn.{code_of};
 ghost use Rattle.text_buffer.specs.Text.{wrote};
 ghost use Rattle.svg_axes.specs.Subject.{shown};

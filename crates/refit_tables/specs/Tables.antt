@@ -1,5 +1,5 @@
 -- The two tables of a report: each canister's own curve, and each reading beside its curve.
-use Rattle.std.specs.Prelude.{ℕ, ◌-◌, cond, List, [], ◌∷◌, ◌++◌, eqb, Float, length, get_or, slice_get, slice_index, Option, Some, None, codes, fold}
+use Rattle.std.specs.Prelude.{ℕ, ◌-◌, cond, List, [], ◌∷◌, eqb, Float, length, get_or, slice_get, slice_index, Option, Some, None, codes, fold}
 use Rattle.std.specs.Float.{nan}
 use Rattle.std.specs.Float.Ieee.{lt}
 use Rattle.std.proofs.Math.Seq.{slice}

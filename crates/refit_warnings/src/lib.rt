@@ -4,11 +4,11 @@
 pub mod findings;
 pub mod told;
 
-ghost use Rattle.std.specs.Prelude.{◌≡◌, not};
+ghost use Rattle.std.specs.Prelude.{◌≡◌};
 ghost use Rattle.std.specs.List.{list_any};
 ghost use Rattle.std.specs.Float.Ieee.{eq};
 ghost use Rattle.curves.specs.MeanFn.{code_of};
-ghost use Rattle.refit_warnings.specs.Warnings.{added_of, sum_of, mean_of, square_of, constant_rss, explains_nothing, is_unmoved, is_step, counted_of, distinct_of, too_few, results, warns};
+ghost use Rattle.refit_warnings.specs.Warnings.{added_of, sum_of, mean_of, square_of, constant_rss, explains_nothing, is_unmoved, is_step, distinct_of, too_few, results, warns};
 
 use crate::findings::{Findings, Warning};
 use curves::Curve;

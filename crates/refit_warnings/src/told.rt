@@ -38,12 +38,17 @@ fn what(warning: Warning) -> &'static [u8]
         Warning::Search => b"The search over theta did not converge",
         Warning::Fit => b"The fit did not converge",
         Warning::Step => b"scal ended at its floor, 1e-06: the curve is a step",
-        Warning::Nothing => b"The curve comes no nearer to the readings than a constant for each canister: it explains nothing",
-        Warning::Few => b"There are no more readings than values to be found, or fewer doses than the curve has values",
-        Warning::Low => b"theta lies at the lower end of the searched range: the best theta may be smaller",
-        Warning::High => b"theta lies at the upper end of the searched range: the best theta may be larger",
+        Warning::Nothing =>
+            b"The curve comes no nearer to the readings than a constant for each canister: it explains nothing",
+        Warning::Few =>
+            b"There are no more readings than values to be found, or fewer doses than the curve has values",
+        Warning::Low =>
+            b"theta lies at the lower end of the searched range: the best theta may be smaller",
+        Warning::High =>
+            b"theta lies at the upper end of the searched range: the best theta may be larger",
         Warning::Alone => b"There is one canister only, so that theta and the spread mean nothing",
-        Warning::Quadrature => b"Quadrature follows the published Rust, whose correction moves theta far away from where other programs find it",
+        Warning::Quadrature =>
+            b"Quadrature follows the published Rust, whose correction moves theta far away from where other programs find it",
     }
 }
 
@@ -53,14 +58,22 @@ fn remedy(warning: Warning) -> &'static [u8]
     ensures { result.now ≡ remedy_of warning }
 {
     match warning {
-        Warning::Unmoved(_) => b"Do not use these numbers. From this start the readings told nothing of it: give another one (--start), or try another --curve.",
-        Warning::Search | Warning::Fit => b"Do not use these numbers. Look for a reading that is far off, give start values (--start), or try another --curve.",
-        Warning::Step => b"Do not use these numbers. Do the readings fall with the dose? Give start values (--start), or try another --curve.",
-        Warning::Nothing => b"Do not use these numbers. Give start values (--start), or try another --curve or --effect.",
-        Warning::Few => b"Do not use these numbers: a curve can be laid through almost anything then. Weigh more doses.",
-        Warning::Low => b"The canisters differ too little to be told apart: their own curves are nearly that of all canisters.",
-        Warning::High => b"Each canister's curve stands nearly alone. Is each name one canister, and was each weighed at several doses?",
-        Warning::Alone => b"The curve does not depend on them. To learn how much canisters differ, weigh a second one.",
+        Warning::Unmoved(_) =>
+            b"Do not use these numbers. From this start the readings told nothing of it: give another one (--start), or try another --curve.",
+        Warning::Search | Warning::Fit =>
+            b"Do not use these numbers. Look for a reading that is far off, give start values (--start), or try another --curve.",
+        Warning::Step =>
+            b"Do not use these numbers. Do the readings fall with the dose? Give start values (--start), or try another --curve.",
+        Warning::Nothing =>
+            b"Do not use these numbers. Give start values (--start), or try another --curve or --effect.",
+        Warning::Few =>
+            b"Do not use these numbers: a curve can be laid through almost anything then. Weigh more doses.",
+        Warning::Low =>
+            b"The canisters differ too little to be told apart: their own curves are nearly that of all canisters.",
+        Warning::High =>
+            b"Each canister's curve stands nearly alone. Is each name one canister, and was each weighed at several doses?",
+        Warning::Alone =>
+            b"The curve does not depend on them. To learn how much canisters differ, weigh a second one.",
         Warning::Quadrature => b"Leave --quadrature out unless you want just those numbers.",
     }
 }
@@ -132,12 +145,18 @@ pub fn title(first: Option<Warning>) -> &'static [u8]
 {
     match first {
         None => b": what was weighed, and each canister's fitted curve",
-        Some(Warning::Unmoved(_)) => b": <tspan fill=\"#b00020\">DO NOT USE THIS FIT: a value did not move from its start</tspan>",
-        Some(Warning::Search) => b": <tspan fill=\"#b00020\">DO NOT USE THIS FIT: the search did not converge</tspan>",
-        Some(Warning::Fit) => b": <tspan fill=\"#b00020\">DO NOT USE THIS FIT: it did not converge</tspan>",
-        Some(Warning::Step) => b": <tspan fill=\"#b00020\">DO NOT USE THIS FIT: the curve is a step</tspan>",
-        Some(Warning::Nothing) => b": <tspan fill=\"#b00020\">DO NOT USE THIS FIT: it explains nothing</tspan>",
-        Some(Warning::Few) => b": <tspan fill=\"#b00020\">DO NOT USE THIS FIT: too few readings</tspan>",
+        Some(Warning::Unmoved(_)) =>
+            b": <tspan fill=\"#b00020\">DO NOT USE THIS FIT: a value did not move from its start</tspan>",
+        Some(Warning::Search) =>
+            b": <tspan fill=\"#b00020\">DO NOT USE THIS FIT: the search did not converge</tspan>",
+        Some(Warning::Fit) =>
+            b": <tspan fill=\"#b00020\">DO NOT USE THIS FIT: it did not converge</tspan>",
+        Some(Warning::Step) =>
+            b": <tspan fill=\"#b00020\">DO NOT USE THIS FIT: the curve is a step</tspan>",
+        Some(Warning::Nothing) =>
+            b": <tspan fill=\"#b00020\">DO NOT USE THIS FIT: it explains nothing</tspan>",
+        Some(Warning::Few) =>
+            b": <tspan fill=\"#b00020\">DO NOT USE THIS FIT: too few readings</tspan>",
         Some(Warning::Low) => b": the fitted curves; theta at the lower end of its range",
         Some(Warning::High) => b": the fitted curves; theta at the upper end of its range",
         Some(Warning::Alone) => b": the fitted curve; one canister only, so no theta",

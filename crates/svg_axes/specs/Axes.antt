@@ -2,7 +2,7 @@
 use Rattle.std.specs.Prelude.{ℕ, cond, pos, ◌==◌, nat_le, int_lt, unsigned_abs, Float, Option, Some, None}
 use Rattle.std.specs.Float.{binary64}
 use Rattle.std.specs.Float.Ieee.{lt, le, neg, of_int}
-use Rattle.math.specs.Basic.{add, sub, mul, div, bits, zero, one, two, abs_of, max_of, is_finite}
+use Rattle.math.specs.Basic.{add, sub, mul, div, bits, one, two, abs_of, max_of, is_finite}
 use Rattle.math.specs.Words.{to_int}
 use Rattle.math.specs.Loops.{iter}
 use Rattle.text_floats.specs.Floats.{nearest_whole, in_tens}

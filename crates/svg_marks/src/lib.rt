@@ -6,10 +6,11 @@ pub mod escape;
 
 ghost use Rattle.std.specs.Prelude.{◌≡◌};
 ghost use Rattle.text_buffer.specs.Text.{wrote};
-ghost use Rattle.svg_marks.specs.Marks.{number_text, colour_text, path_of, shape_text};
+ghost use Rattle.svg_marks.specs.Marks.{number_text, colour_text, path_text, shape_text};
 
 use text_buffer::Text;
 use text_floats::fixed;
+use text_lines::words::word;
 
 // A text and then a number with one decimal.
 #[tactic(auto, using(text_buffer::specs::laws::Text::writing))]
@@ -28,7 +29,7 @@ const COLOURS: [&[u8]; 8] = [
 pub fn colour(out: &mut Text<'_>, g: usize)
     ensures { out.new ≡ wrote out.old (colour_text g) }
 {
-    out.put(COLOURS[g % 8]);
+    word(out, &COLOURS, g % 8);
 }
 
 // A circle, a square, a triangle, a diamond, a triangle on its point.
@@ -40,11 +41,11 @@ const SHAPES: [&[u8]; 5] = [
     b"m0 4.8l4.4-7.8h-8.8z",
 ];
 
-#[tactic(auto, unfolding(crate::specs::Marks::path_of))]
-fn path(g: usize) -> &'static [u8]
-    ensures { result.now ≡ path_of g }
+#[tactic(auto, unfolding(crate::specs::Marks::path_text))]
+fn path(out: &mut Text<'_>, g: usize)
+    ensures { out.new ≡ wrote out.old (path_text g) }
 {
-    SHAPES[(g % 8 + g / 8 * 4) % 5]
+    word(out, &SHAPES, (g % 8 + g / 8 * 4) % 5);
 }
 
 // What follows a path's first point.
@@ -52,6 +53,6 @@ fn path(g: usize) -> &'static [u8]
 pub fn shape(out: &mut Text<'_>, g: usize)
     ensures { out.new ≡ wrote out.old (shape_text g) }
 {
-    out.put(path(g));
+    path(out, g);
     out.put(b"\"/>\n");
 }

@@ -55,11 +55,11 @@ legend_y g = cond (nat_lt g 32) (add (bits 0x404e_0000_0000_0000) (mul (bits 0x4
 unfoldable pub line_text : ℕ → Float → List ℕ
 line_text g y =
     joined (
-      codes "</g>\n<path fill=\"none\" stroke-width=\"1.6\" stroke=\""
-      ∷ colour_text g
-      ∷ number_text (codes "\" d=\"M694 ") y
-      ∷ codes "h28\"/>\n<g fill=\""
-      ∷ [])
+    codes "</g>\n<path fill=\"none\" stroke-width=\"1.6\" stroke=\""
+    ∷ colour_text g
+    ∷ number_text (codes "\" d=\"M694 ") y
+    ∷ codes "h28\"/>\n<g fill=\""
+    ∷ [])
 
 unfoldable pub key_text : ℕ → Float → List ℕ
 key_text g y = joined (line_text g y ∷ colour_text g ∷ number_text (codes "\"><path d=\"M708.0 ") y ∷ shape_text g ∷ [])
