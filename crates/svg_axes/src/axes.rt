@@ -43,7 +43,7 @@ fn round_up(m: f64) -> f64
     }
 }
 
-// The largest whole number that is not above x, of a size below 2^53.
+// The largest whole number that is not above x, of a size below 2^53; unlike the `floor` of `f64`, no zero is below 0.
 #[tactic(auto, unfolding(crate::specs::Axes::floor_of))]
 fn floor(x: f64) -> f64
     ensures { result ≡ floor_of x }

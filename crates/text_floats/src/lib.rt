@@ -156,6 +156,7 @@ pub struct Scaled {
     pub power: i64,
 }
 
+// Down and up by two loops: one over closures for the test and the step would have to say of each what it computes.
 #[tactic(auto, using(math::specs::laws::Loops::until_stop, math::specs::laws::Loops::until_go, math::specs::laws::Loops::until_done), unfolding(crate::specs::Floats::divided))]
 fn scaled_down(x: f64) -> Scaled
     ensures value { result ≡ divided 400 0 x }
