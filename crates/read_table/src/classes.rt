@@ -64,7 +64,8 @@ pub fn met(text: &[u8], at: usize, stop: Stop) -> bool
     at < text.len() && stop.stops_at(text[at])
 }
 
-// How many bytes come from `at` on before the first such one.
+// How many bytes come from `at` on before the first such one. Not one function with read_decimal's digits_at: over a closure
+// its contract needs a test as a ghost value, and each call a file that names it, for one line here and there.
 fn bytes_before(text: &[u8], at: usize, stop: Stop) -> usize
     ensures value { result ≡ length (take_while (λ b. not (stops_at stop b)) (drop at text.now)) }
     ensures upper_bound { result ≤ length text.now - at }

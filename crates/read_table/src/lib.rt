@@ -43,8 +43,8 @@ fn after_mark(text: &[u8]) -> usize
 }
 
 #[tactic(auto, using(crate::proofs::LinesLaws::turn, crate::proofs::LinesLaws::lines_end), unfolding(crate::specs::Table::table_of))]
-// The readings of `text`, entered at the front of the lists, which say how many are taken; the name
-// of canister g is text[names[g].start..names[g].stop].
+// The readings of `text`, entered at the front of the lists, which say how many are taken: a list for
+// each, as a fit takes them. The name of canister g is text[names[g].start..names[g].stop].
 pub fn read_table(
     text: &[u8],
     doses: &mut [f64],

@@ -9,7 +9,7 @@ ghost use Rattle.std.specs.Prelude.{◌≤◌, length, IfOk};
 use crate::starts::read_starts;
 use read_table::fault::TableFault;
 use refit_options::options::{Asked, Command, Fit, OptionError, OptionFault, Page};
-use refit_run::Readings;
+use refit_run::task::{Readings, Task};
 use std::io::{Read, Write};
 use std::rt::Files;
 use std::{fs, io, str};
@@ -164,22 +164,18 @@ impl<'a, R: Files + AllocGlobal, O: Write, E: Write> Console<'a, R, O, E> {
         fit: Fit<'_>,
         given: [f64; 4],
         source: Source<'_>,
-        readings: Readings<'_>,
+        readings: &Readings<'_>,
     ) -> io::Result<()> {
         let mut out = [0u8; 131072];
         let mut svg = [0u8; 131072];
         let mut report = Text::new(&mut out);
         let mut picture = Text::new(&mut svg);
-        let drawn = fit.svg.is_some();
-        match refit_run::run(
-            fit.settings,
-            source.example,
-            drawn,
-            readings,
-            given,
-            &mut report,
-            &mut picture,
-        ) {
+        let task = Task {
+            settings: fit.settings,
+            example: source.example,
+            picture: fit.svg.is_some(),
+        };
+        match refit_run::run(&task, readings, given, &mut report, &mut picture) {
             Err(fault) => self.complain_of_line(source.name, None, fault),
             Ok(()) => self.show(fit.svg, &report, &picture),
         }
@@ -201,7 +197,7 @@ impl<'a, R: Files + AllocGlobal, O: Write, E: Write> Console<'a, R, O, E> {
                     names: &names,
                     canisters: read.canisters,
                 };
-                self.refit(fit, given, source, readings)
+                self.refit(fit, given, source, &readings)
             }
         }
     }

@@ -6,7 +6,7 @@ use Rattle.refusal.specs.Refusal.{number_of}
 use Rattle.text_buffer.specs.Text.{joined}
 use Rattle.text_lines.specs.Lines.{filled}
 use Rattle.svg_axes.specs.Subject.{Shown}
-use Rattle.refit_calculation.specs.declared.Refit.{Refit}
+use Rattle.refit_calculation.specs.declared.Answer.{Answer}
 use Rattle.refit_calculation.specs.declared.Refused.{Refused}
 use Rattle.refit_calculation.specs.declared.Step.{Step}
 use Rattle.refit_calculation.specs.declared.Step.TheVariants.{Start, Search, Fit}
@@ -82,7 +82,7 @@ starts_text code given adjusted starts =
 abbrev pub converged_text : Bool → List ℕ
 converged_text is = cond is (codes "  converged\n") (codes "  *** NOT CONVERGED: do not use these numbers ***\n")
 
-unfoldable pub theta_text : Refit → List ℕ
+unfoldable pub theta_text : Answer → List ℕ
 theta_text r =
     joined (
     filled
@@ -103,7 +103,7 @@ spread_of code place x =
 unfoldable pub spread_text : ℕ → ℕ → Float → List ℕ
 spread_text code place x = cond (eqb code 2) [] (spread_of code place x)
 
-unfoldable pub fit_text : ℕ → ℕ → Refit → List ℕ
+unfoldable pub fit_text : ℕ → ℕ → Answer → List ℕ
 fit_text code place r =
     let root = sqrt_of r.sigma2 in
     joined (
@@ -179,6 +179,6 @@ unfoldable pub without_text : Settings → Bool → Shown → List Float → Ref
 without_text o example s starts e =
     joined (beginning_text o example s false ∷ begun_text s.code o.given starts e ∷ refused_text e ∷ [])
 
-unfoldable pub report_text : Settings → Bool → Shown → List Float → Result Refit Refused → List ℕ
+unfoldable pub report_text : Settings → Bool → Shown → List Float → Result Answer Refused → List ℕ
 report_text o example s starts (Ok refit) = told_text o example (record { shown = s; starts = starts; n_agq = o.n_agq; refit = refit })
 report_text o example s starts (Err e) = without_text o example s starts e

@@ -12,7 +12,7 @@ ghost use Rattle.refit_report.specs.Report.{value_lines, values_text, note_text,
 
 use crate::beginning::{beginning, either, when};
 use curves::Curve;
-use refit_calculation::{Refit, Refused, Step};
+use refit_calculation::{Answer, Refused, Step};
 use refit_options::options::Settings;
 use refit_options::words::{name, refusal};
 use refit_tables::{canisters, readings};
@@ -81,7 +81,7 @@ fn converged(out: &mut Text<'_>, is: bool)
     );
 }
 
-fn theta_of(out: &mut Text<'_>, r: &Refit)
+fn theta_of(out: &mut Text<'_>, r: &Answer)
     ensures { out.new ≡ wrote out.old (theta_text r.now) }
 {
     fill(
@@ -112,7 +112,7 @@ fn spread(out: &mut Text<'_>, curve: Curve, place: usize, x: f64)
     }
 }
 
-fn fit_of(out: &mut Text<'_>, curve: Curve, place: usize, r: &Refit)
+fn fit_of(out: &mut Text<'_>, curve: Curve, place: usize, r: &Answer)
     ensures { out.new ≡ wrote out.old (fit_text (code_of curve) place r.now) }
 {
     let root = math::sqrt::sqrt(r.sigma2);
@@ -236,7 +236,7 @@ pub fn report(
     example: bool,
     s: &Subject<'_>,
     starts: &[f64],
-    answer: Result<Refit, Refused>,
+    answer: Result<Answer, Refused>,
 )
     ensures { out.new ≡ wrote out.old (report_text o.now example (shown s.now) starts.now answer) }
 {

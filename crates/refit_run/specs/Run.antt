@@ -1,67 +1,94 @@
 -- A run: the refit of readings, its report, and the picture if one is asked for.
-use Rattle.std.specs.Prelude.{ℕ, ◌≤◌, Bool, not, cond, List, [], ◌∷◌, eqb, ltb, Float, length, take, replicate}
+use Rattle.std.specs.Prelude.{ℕ, ◌≤◌, cond, ◌||◌, List, [], ◌∷◌, nat_lt, Float, length, take, replicate, Result, Ok, Err}
 use Rattle.math.specs.Basic.{zero}
-use Rattle.curves.specs.MeanFn.{n_params_of}
-use Rattle.text_buffer.specs.declared.Place.{Place}
-use Rattle.text_buffer.specs.Text.{start, wrote}
+use Rattle.curves.specs.MeanFn.{code_of, n_params_of}
+use Rattle.text_buffer.specs.declared.Span.{Span}
+use Rattle.text_buffer.specs.Text.{Written, wrote}
+use Rattle.read_table.specs.declared.fault.TableFault.{TableFault}
+use Rattle.svg_axes.specs.Subject.{Shown}
 use Rattle.svg_picture.specs.Picture.{picture_text}
-use Rattle.refit_calculation.specs.Refit.{Refitted, refit_of}
-use Rattle.refit_options.specs.declared.options.Options.{Options}
-use Rattle.refit_run.specs.declared.Outcome.{Outcome}
-use Rattle.refit_warnings.specs.Warnings.{warnings_of}
-use Rattle.refit_warnings.specs.Told.{first_of}
+use Rattle.refit_calculation.specs.declared.Answer.{Answer}
+use Rattle.refit_calculation.specs.declared.Refused.{Refused}
+use Rattle.refit_calculation.specs.Refit.{Refitted, asked_of, refit_of}
+use Rattle.refit_warnings.specs.Told.{first_of, title_of}
 use Rattle.refit_report.specs.Report.{report_text}
+use Rattle.refit_run.specs.declared.task.Task.{Task}
+use Rattle.refit_run.specs.declared.task.Readings.{Readings}
 
--- what is answered, and the two lent buffers as they are left
-pub record Ran : Type 0 where
-  pub outcome : Outcome
-  pub out : List ℕ
-  pub svg : List ℕ
+-- Readings of the code, with their slices' lists
+pub record Read : Type 0 where
+  pub text : List ℕ
+  pub doses : List Float
+  pub grams : List Float
+  pub group : List ℕ
+  pub names : List Span
+  pub canisters : ℕ
 
-abbrev pub refused_with : ℕ → Outcome
-refused_with fault = record { fault = fault; report = start; picture = start }
+abbrev pub read : Readings → Read
+read r =
+    record { text = r.text.now; doses = r.doses.now; grams = r.grams.now; group = r.group.now; names = r.names.now; canisters = r.canisters }
 
--- 7: more readings than 512 or than a list has; 8: more canisters than 32
-unfoldable pub fault_of : ℕ → ℕ → ℕ → ℕ → ℕ → ℕ
-fault_of n groups doses grams numbers =
-    cond (ltb 512 n) 7
-    (cond (ltb doses n) 7
-    (cond (ltb grams n) 7
-    (cond (ltb numbers n) 7
-    (cond (ltb 32 groups) 8 0))))
+-- more readings than 512 or than a list has, or more canisters than 32
+unfoldable pub fault_of : Read → Result (Unit {0}) TableFault
+fault_of r =
+    let n = length r.doses in
+    cond (nat_lt 512 n || nat_lt (length r.grams) n || nat_lt (length r.group) n) (Err TableFault.TooManyReadings)
+    (cond (nat_lt 32 r.canisters) (Err TableFault.TooManyCanisters) (Ok tt))
 
 -- what a run without a fault has
-pub record InReach (n groups doses grams numbers : ℕ) : Type 0 where
-  pub few : n ≤ 512
-  pub all_doses : n ≤ doses
-  pub all_grams : n ≤ grams
-  pub all_numbers : n ≤ numbers
-  pub canisters : groups ≤ 32
+pub record InReach (r : Read) : Type 0 where
+  pub few : length r.doses ≤ 512
+  pub all_grams : length r.doses ≤ length r.grams
+  pub all_groups : length r.doses ≤ length r.group
+  pub few_canisters : r.canisters ≤ 32
 
 -- the picture, where one is asked for and there is a fit
-unfoldable pub pictured_of : Options → Bool → ℕ → ℕ → List ℕ → List Float → List Float → List ℕ → List ℕ → List Float → List Float → List ℕ → List ℕ × Place
-pictured_of o example stage warning text doses grams group names values b svg =
-    cond (eqb o.svg 0) (svg, start)
-    (cond (eqb stage 0) (wrote svg start (picture_text o.code o.place text doses grams group names values b example warning)) (svg, start))
+unfoldable pub picture_of : Task → Shown → List Float → Result Answer Refused → Written → Written
+picture_of o shown starts (Err e) svg = svg
+picture_of o shown starts (Ok refit) svg =
+    cond o.picture
+    (wrote svg (picture_text shown o.example (title_of (first_of (record { shown = shown; starts = starts; n_agq = o.settings.n_agq; refit = refit })))))
+    svg
 
 -- the report and the picture of a refit
-abbrev pub told_of : Options → Bool → List ℕ → List Float → List Float → List ℕ → List ℕ → Refitted → List ℕ → List ℕ → Ran
-told_of o example text doses grams group names t out svg =
-    let w = warnings_of o.code o.n_agq t.answer doses grams group (length t.effects) t.starts t.values in
-    let p = wrote out start (report_text o t.answer example text doses grams group names t.starts t.values t.effects w) in
-    let d = pictured_of o example t.answer.stage (first_of w) text doses grams group names t.values t.effects svg in
-    record { outcome = record { fault = 0; report = p.1; picture = d.1 }; out = p.0; svg = d.0 }
+abbrev pub told_of : Task → Shown → List Float → Result Answer Refused → Written → Written → Written × Written
+told_of o shown starts answer out svg = (wrote out (report_text o.settings o.example shown starts answer), picture_of o shown starts answer svg)
 
-unfoldable pub answer_of : Options → Bool → List ℕ → List Float → List Float → List ℕ → List ℕ → List Float → List Float → List Float → List ℕ → List ℕ → Ran
-answer_of o example text doses grams group names starts values b out svg =
-    told_of o example text doses grams group names
-    (refit_of o.code doses grams group (o.place ∷ []) o.reml o.n_agq (not (eqb o.start 0)) starts values b) out svg
+-- what is shown of a refit
+abbrev pub shown_of : Task → Read → Refitted → Shown
+shown_of o r t =
+    record {
+      code = code_of o.settings.curve;
+      place = o.settings.place;
+      doses = r.doses;
+      grams = take (length r.doses) r.grams;
+      group = take (length r.doses) r.group;
+      text = r.text;
+      names = r.names;
+      values = t.values;
+      effects = t.effects;
+    }
 
--- the first n readings, and of the start values those that are given, as many as the curve has; a fault writes nothing
-unfoldable pub run_of : Options → Bool → List ℕ → ℕ → ℕ → List Float → List Float → List ℕ → List ℕ → List Float → List ℕ → List ℕ → Ran
-run_of o example text n groups doses grams numbers names starts out svg =
-    let zeros = replicate (n_params_of o.code) zero in
-    let fault = fault_of n groups (length doses) (length grams) (length numbers) in
-    cond (eqb fault 0)
-    (answer_of o example text (take n doses) (take n grams) (take n numbers) names (take (n_params_of o.code) starts) zeros (replicate groups zero) out svg)
-    (record { outcome = refused_with fault; out = out; svg = svg })
+unfoldable pub answer_of : Task → Read → List Float → List Float → List Float → Written → Written → Written × Written
+answer_of o r starts values effects out svg =
+    let t = refit_of
+    (asked_of (code_of o.settings.curve) r.doses (take (length r.doses) r.grams) (take (length r.doses) r.group) (o.settings.place ∷ []) o.settings.reml o.settings.n_agq o.settings.given)
+    starts values effects in
+    told_of o (shown_of o r t) t.starts t.answer out svg
+
+-- of the start values those that are given, as many as the curve has
+unfoldable pub answered : Task → Read → List Float → Written → Written → Written × Written
+answered o r given out svg =
+    let k = n_params_of (code_of o.settings.curve) in
+    answer_of o r (take k given) (replicate k zero) (replicate r.canisters zero) out svg
+
+-- what came of it, and the two texts; a fault writes nothing
+abbrev pub Ran : Type 0
+Ran = Result (Unit {0}) TableFault × Written × Written
+
+abbrev pub run_from : Result (Unit {0}) TableFault → Written × Written → Written → Written → Ran
+run_from (Ok u) told out svg = (Ok tt, told.0, told.1)
+run_from (Err e) told out svg = (Err e, out, svg)
+
+unfoldable pub run_of : Task → Read → List Float → Written → Written → Ran
+run_of o r given out svg = run_from (fault_of r) (answered o r given out svg) out svg

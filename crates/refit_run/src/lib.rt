@@ -1,235 +1,171 @@
 // The refit of readings, and what a person is told of it. No file is read or written here: `run` takes the readings, the
-// text that they were read from, which has the canisters' names, and the options, and writes the report, and the picture if
+// text that they were read from, which has the canisters' names, and what is asked, and writes the report, and the picture if
 // one is asked for, into lent buffers.
 #![tactic(auto)]
 
-ghost use Rattle.std.specs.Prelude.{◌≡◌, ◌≤◌, length};
-ghost use Rattle.std.proofs.Math.Seq.{paste};
-ghost use Rattle.refit_run.specs.Run.{refused_with, pictured_of, told_of, answer_of, fault_of, InReach, run_of};
+pub mod task;
 
-use curves::mean_fn::n_params;
-use refit_calculation::{Answer, refit};
-use refit_options::options::Options;
+ghost use Rattle.std.specs.Prelude.{◌≡◌, ◌≤◌, IfOk, length};
+ghost use Rattle.curves.specs.MeanFn.{code_of, n_params_of};
+ghost use Rattle.svg_axes.specs.Subject.{shown};
+ghost use Rattle.refit_run.specs.Run.{InReach, read, fault_of, picture_of, told_of, answer_of, answered, run_of};
+
+use crate::task::{Readings, Task};
+use read_table::fault::TableFault;
+use refit_calculation::{Answer, Refused, Request, refit};
 use refit_report::report;
-use refit_warnings::told::first;
-use refit_warnings::warnings;
-use text_buffer::Place;
+use refit_warnings::findings::Findings;
+use refit_warnings::told::{first, title};
+use svg_axes::subject::Subject;
+use text_buffer::Text;
 
-// A fault, or else how far the report and the picture were written.
-#[derive(Clone, Copy)]
-pub struct Outcome {
-    pub fault: u64,
-    pub report: Place,
-    pub picture: Place,
-}
-
-fn refused(fault: u64) -> Outcome
-    ensures { result ≡ refused_with fault }
+// The picture of a refit, where one is asked for and there is a fit.
+#[tactic(auto, unfolding(crate::specs::Run::picture_of))]
+fn picture(
+    svg: &mut Text<'_>,
+    o: &Task,
+    subject: &Subject<'_>,
+    starts: &[f64],
+    answer: Result<Answer, Refused>,
+)
+    ensures { svg.new ≡ picture_of o.now (shown subject.now) starts.now answer svg.old }
 {
-    Outcome {
-        fault: fault,
-        report: text_buffer::begin(),
-        picture: text_buffer::begin(),
+    if !o.picture {
+        return;
     }
-}
-
-// The first n numbers as indices.
-fn indices(from: &[u64], to: &mut [usize], n: usize)
-    requires { (n ≤ length from.now) × (n ≤ length to.old) }
-    ensures { to.new ≡ paste to.old 0 from.now n }
-{
-    let mut i = 0usize;
-    while i < n {
-        to[i] = from[i] as usize;
-        i += 1;
+    match answer {
+        Ok(refit) => {
+            let found = Findings {
+                subject: *subject,
+                starts,
+                n_agq: o.settings.n_agq,
+                refit,
+            };
+            svg_picture::draw(svg, subject, o.example, title(first(&found)));
+        }
+        Err(_) => {}
     }
-}
-
-// The picture, where one is asked for and there is a fit.
-fn pictured(
-    o: Options,
-    example: bool,
-    stage: u64,
-    warning: u64,
-    text: &[u8],
-    doses: &[f64],
-    grams: &[f64],
-    group: &[usize],
-    names: &[u64],
-    values: &[f64],
-    b: &[f64],
-    svg: &mut [u8],
-) -> Place
-    ensures { (svg.new, result)
-        ≡ pictured_of o example stage warning text.now doses.now grams.now group.now
-        names.now values.now b.now svg.old }
-{
-    if o.svg == 0 {
-        return text_buffer::begin();
-    }
-    if stage != 0 {
-        return text_buffer::begin();
-    }
-    svg_picture::draw(
-        svg, o.code, o.place, text, doses, grams, group, names, values, b, example, warning,
-    )
 }
 
 // The report and the picture of a refit.
 fn told(
-    o: Options,
-    example: bool,
-    a: Answer,
-    text: &[u8],
-    doses: &[f64],
-    grams: &[f64],
-    group: &[usize],
-    names: &[u64],
+    o: &Task,
+    subject: &Subject<'_>,
     starts: &[f64],
-    values: &[f64],
-    b: &[f64],
-    out: &mut [u8],
-    svg: &mut [u8],
-) -> Outcome
-    ensures { told_of o example text.now doses.now grams.now group.now names.now
-        (record { answer = a; starts = starts.now; values = values.now; effects = b.now })
-        out.old svg.old
-        ≡ record { outcome = result; out = out.new; svg = svg.new } }
+    answer: Result<Answer, Refused>,
+    out: &mut Text<'_>,
+    svg: &mut Text<'_>,
+)
+    ensures { (out.new, svg.new) ≡ told_of o.now (shown subject.now) starts.now answer out.old svg.old }
 {
-    let w = warnings(
-        o.code,
-        o.n_agq,
-        a,
-        doses,
-        grams,
-        group,
-        b.len(),
-        starts,
-        values,
-    );
-    let p = report(
-        out, o, a, example, text, doses, grams, group, names, starts, values, b, &w,
-    );
-    let q = pictured(
-        o,
-        example,
-        a.stage,
-        first(&w),
-        text,
-        doses,
-        grams,
-        group,
-        names,
-        values,
-        b,
-        svg,
-    );
-    Outcome {
-        fault: 0,
-        report: p,
-        picture: q,
-    }
+    report(out, &o.settings, o.example, subject, starts, answer);
+    picture(svg, o, subject, starts, answer);
 }
 
-// The refit of readings that were read, and what is told of it.
+// The refit of readings that are in reach, and what is told of it.
+#[tactic(auto, unfolding(crate::specs::Run::answer_of))]
 fn answer(
-    o: Options,
-    example: bool,
-    text: &[u8],
-    doses: &[f64],
-    grams: &[f64],
-    group: &[usize],
-    names: &[u64],
+    o: &Task,
+    readings: &Readings<'_>,
     starts: &mut [f64],
     values: &mut [f64],
-    b: &mut [f64],
-    out: &mut [u8],
-    svg: &mut [u8],
-) -> Outcome
-    ensures { answer_of o example text.now doses.now grams.now group.now names.now
-        starts.old values.old b.old out.old svg.old
-        ≡ record { outcome = result; out = out.new; svg = svg.new } }
+    effects: &mut [f64],
+    out: &mut Text<'_>,
+    svg: &mut Text<'_>,
+)
+    requires { InReach (read readings.now) }
+    ensures { (out.new, svg.new) ≡ answer_of o.now (read readings.now) starts.old values.old effects.old out.old svg.old }
 {
-    let effects = [o.place];
-    let a = refit(
-        o.code,
-        doses,
-        grams,
-        group,
-        &effects,
-        o.reml,
-        o.n_agq,
-        o.start != 0,
-        starts,
+    let n = readings.doses.len();
+    let place = [o.settings.place];
+    let request = Request {
+        code: o.settings.curve.code(),
+        doses: readings.doses,
+        grams: &readings.grams[..n],
+        group: &readings.group[..n],
+        effects: &place,
+        reml: o.settings.reml,
+        n_agq: o.settings.n_agq,
+        given: o.settings.given,
+    };
+    let answer = refit(&request, starts, values, effects);
+    let subject = Subject {
+        curve: o.settings.curve,
+        place: o.settings.place,
+        doses: request.doses,
+        grams: request.grams,
+        group: request.group,
+        text: readings.text,
+        names: readings.names,
         values,
-        b,
-    );
-    told(
-        o, example, a, text, doses, grams, group, names, starts, values, b, out, svg,
-    )
-}
-
-// The refit of n readings of so many canisters, told in words, from `given` start values where the options say that some
-// are given; the fault is 7 or 8 where the lists hold fewer or there are too many.
-pub fn run(
-    o: Options,
-    example: bool,
-    text: &[u8],
-    n: usize,
-    groups: usize,
-    doses: &[f64],
-    grams: &[f64],
-    numbers: &[u64],
-    names: &[u64],
-    given: [f64; 4],
-    out: &mut [u8],
-    svg: &mut [u8],
-) -> Outcome
-    ensures { run_of o example text.now n groups doses.now grams.now numbers.now
-        names.now given out.old svg.old
-        ≡ record { outcome = result; out = out.new; svg = svg.new } }
-{
-    let f = fault_of(n, groups, doses.len(), grams.len(), numbers.len());
-    if f != 0 {
-        return refused(f);
-    }
-    let k = n_params(o.code);
-    let mut group = [0usize; 512];
-    let mut starts = given;
-    let mut values = [0.0; 4];
-    let mut b = [0.0; 32];
-    indices(numbers, &mut group, n);
-    answer(
-        o,
-        example,
-        text,
-        &doses[..n],
-        &grams[..n],
-        &group[..n],
-        names,
-        &mut starts[..k],
-        &mut values[..k],
-        &mut b[..groups],
-        out,
-        svg,
-    )
+        effects,
+    };
+    told(o, &subject, starts, answer, out, svg);
 }
 
 // More readings than 512 or than a list has, or more canisters than 32.
-fn fault_of(n: usize, groups: usize, doses: usize, grams: usize, numbers: usize) -> u64
-    ensures { (result ≡ fault_of n groups doses grams numbers) × (result ≡ 0 → InReach n groups doses grams numbers) }
+#[tactic(auto, unfolding(crate::specs::Run::fault_of))]
+fn within_reach(readings: &Readings<'_>) -> Result<(), TableFault>
+    ensures value { result ≡ fault_of (read readings.now) }
+    ensures in_reach { IfOk result (λ _. InReach (read readings.now)) }
 {
-    if n > 512 {
-        return 7;
+    let n = readings.doses.len();
+    if n > 512 || n > readings.grams.len() || n > readings.group.len() {
+        return Err(TableFault::TooManyReadings);
     }
-    if n > doses {
-        return 7;
+    if readings.canisters > 32 {
+        return Err(TableFault::TooManyCanisters);
     }
-    if n > grams {
-        return 7;
-    }
-    if n > numbers {
-        return 7;
-    }
-    if groups > 32 { 8 } else { 0 }
+    Ok(())
+}
+
+#[tactic(auto, unfolding(curves::specs::MeanFn::n_params_of))]
+fn n_values(o: &Task) -> usize
+    ensures value { result ≡ n_params_of (code_of o.now.settings.curve) }
+    ensures few { result ≤ 4 }
+{
+    o.settings.curve.n_params()
+}
+
+// The same from `given` start values, as many as the curve has, and from zeros.
+fn answer_from(
+    o: &Task,
+    readings: &Readings<'_>,
+    given: [f64; 4],
+    out: &mut Text<'_>,
+    svg: &mut Text<'_>,
+)
+    requires { InReach (read readings.now) }
+    ensures { (out.new, svg.new) ≡ answered o.now (read readings.now) given out.old svg.old }
+{
+    let k = n_values(o);
+    let mut starts = given;
+    let mut values = [0.0; 4];
+    let mut effects = [0.0; 32];
+    answer(
+        o,
+        readings,
+        &mut starts[..k],
+        &mut values[..k],
+        &mut effects[..readings.canisters],
+        out,
+        svg,
+    );
+}
+
+// The refit of readings, told in words, from `given` start values where it is asked that some are given; a fault where
+// the lists hold fewer readings or there are too many.
+#[tactic(auto, unfolding(crate::specs::Run::run_of))]
+pub fn run(
+    o: &Task,
+    readings: &Readings<'_>,
+    given: [f64; 4],
+    out: &mut Text<'_>,
+    svg: &mut Text<'_>,
+) -> Result<(), TableFault>
+    ensures { (result, out.new, svg.new) ≡ run_of o.now (read readings.now) given out.old svg.old }
+{
+    within_reach(readings)?;
+    answer_from(o, readings, given, out, svg);
+    Ok(())
 }

@@ -6,7 +6,7 @@ use Rattle.std.specs.Float.Ieee.{lt, eq}
 use Rattle.math.specs.Basic.{add, sub, mul, div, bits, zero, one}
 use Rattle.math.specs.Loops.{iter}
 use Rattle.svg_axes.specs.Subject.{Shown, shown}
-use Rattle.refit_calculation.specs.declared.Refit.{Refit}
+use Rattle.refit_calculation.specs.declared.Answer.{Answer}
 use Rattle.refit_warnings.specs.declared.Sum.{Sum}
 use Rattle.refit_warnings.specs.declared.findings.Findings.{Findings}
 use Rattle.refit_warnings.specs.declared.findings.Warning.{Warning}
@@ -17,7 +17,7 @@ pub record Results : Type 0 where
   pub shown : Shown
   pub starts : List Float
   pub n_agq : ℕ
-  pub refit : Refit
+  pub refit : Answer
 
 abbrev pub results : Findings → Results
 results f = record { shown = shown f.subject; starts = f.starts.now; n_agq = f.n_agq; refit = f.refit }

@@ -1,5 +1,5 @@
 // A refit that was not refused.
-use refit_calculation::Refit;
+use refit_calculation::Answer;
 use svg_axes::subject::Subject;
 
 // What was refitted and found, from which start values, and the order of quadrature that was asked for.
@@ -8,7 +8,7 @@ pub struct Findings<'a> {
     pub subject: Subject<'a>,
     pub starts: &'a [f64],
     pub n_agq: u64,
-    pub refit: Refit,
+    pub refit: Answer,
 }
 
 // The first is of a value of the curve.
