@@ -2,23 +2,19 @@
 use Rattle.std.specs.Prelude.{ℕ, suc, Bool, false, not, ◌||◌, cond, List, [], ◌∷◌, ◌++◌, eqb, length}
 use Rattle.math.specs.Basic.{is_finite}
 use Rattle.math.specs.Lists.{every}
-use Rattle.curves.specs.MeanFn.{n_params_of}
 use Rattle.fit_faults.specs.Tests.{all_below, bad_code, bad_readings, bad_groups, bad_effects, bad_lengths, bad_theta, bad_numbers, bad_order, bad_outputs, too_many}
 use Rattle.fit_refusals.specs.Problem.{Problem, p, k}
 
--- 1 to 5, of every operation; doses and grams are lengths
-abbrev pub first_five : ℕ → ℕ → ℕ → List ℕ → ℕ → List ℕ → List Bool
-first_five code doses grams group groups effects =
-    bad_code code
-    ∷ bad_readings doses grams (length group)
-    ∷ bad_groups groups
-    ∷ not (all_below groups group)
-    ∷ bad_effects (n_params_of code) effects
-    ∷ []
-
 module _ (q : Problem) where
+  -- 1 to 5, of every operation
   abbrev pub early : List Bool
-  early = first_five q.code (length q.doses) (length q.grams) q.group q.groups q.effects
+  early =
+      bad_code q.code
+      ∷ bad_readings (length q.doses) (length q.grams) (length q.group)
+      ∷ bad_groups q.groups
+      ∷ not (all_below q.groups q.group)
+      ∷ bad_effects (p q) q.effects
+      ∷ []
 
   -- 6, 7 and 8 without theta
   abbrev pub wrong_lengths : Bool
@@ -51,6 +47,15 @@ module _ (q : Problem) where
       ∷ (too_many rounds || eqb (k q) 2 || too_many narrowings)
       ∷ []
 
+  -- 1 to 8, those of theta where it is read
+  abbrev pub first_eight : Bool → List Bool
+  first_eight reads_theta =
+      early
+      ++ cond reads_theta (wrong_lengths || bad_theta (k q) (length q.theta)) wrong_lengths
+      ∷ cond reads_theta (wrong_numbers || not (every is_finite q.theta)) wrong_numbers
+      ∷ wrong_order
+      ∷ []
+
 -- the number of the first fault, counted from i, and 0 where there is none
 unfoldable pub first_from : ℕ → List Bool → ℕ
 first_from i [] = 0
@@ -63,3 +68,7 @@ refusal_of q values effects rounds = first_from 1 (early q ++ fit_later q values
 -- what a search refuses with
 unfoldable pub search_refusal_of : Problem → ℕ → ℕ → ℕ
 search_refusal_of q rounds narrowings = first_from 1 (early q ++ search_later q rounds narrowings)
+
+-- the first of 1 to 8
+unfoldable pub first_of_eight : Problem → Bool → ℕ
+first_of_eight q reads_theta = first_from 1 (first_eight q reads_theta)

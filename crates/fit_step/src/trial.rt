@@ -1,232 +1,145 @@
 // The start of a fit, the state that a trial tries, the sizes of a direction and of a step, and lambda.
-ghost use Rattle.std.specs.Prelude.{◌≡◌, ◌≤◌, ◌<◌, ◌+◌, ◌*◌, length};
-ghost use Rattle.curves.specs.MeanFn.{n_params_of};
-ghost use Rattle.fit_step.specs.Sized.{Effects};
-ghost use Rattle.fit_step.specs.Trial.{adjusted, floored, on_scal, started, start_from, moved_of, values_tried, effects_tried, tried_from, largest_of, step_of, lambda_of, lowered, raised};
+ghost use Rattle.std.specs.Prelude.{◌≡◌, ◌≤◌, ◌+◌, ◌*◌, Float, length};
+ghost use Rattle.curves.specs.MeanFn.{code_of};
+ghost use Rattle.fit_refusals.specs.Problem.{p, k};
+ghost use Rattle.fit_refusals.specs.Given.{checked};
+ghost use Rattle.fit_step.specs.Trial.{adjusted, floored, on_scal, started, start_of, moved_of, values_tried, effects_tried, tried_of};
+ghost use Rattle.fit_step.specs.Trial.{largest_of, step_of, first_lambda, lowered, raised};
 
 use crate::State;
 use crate::project::{project_group_params, project_params};
-use curves::mean_fn::n_params;
+use curves::Curve;
+use fit_refusals::NlmmProblem;
 
 // A size below 1e-8 becomes 350.
 fn adjust(v: f64) -> f64
     ensures { result ≡ adjusted v }
 {
-    if math::abs(v) < 1e-8 {
-        return 350.0;
-    }
-    v
-}
-
-fn adjust_scal(code: u64, values: [f64; 4]) -> [f64; 4]
-    ensures { result ≡ on_scal code adjusted values }
-{
-    let mut v = values;
-    if code == 1 {
-        v[2] = adjust(v[2]);
-        return v;
-    }
-    if code == 4 {
-        v[3] = adjust(v[3]);
-        return v;
-    }
-    v
+    if math::abs(v) < 1e-8 { 350.0 } else { v }
 }
 
 // A value below 1e-6 becomes 1e-6.
 fn floor(v: f64) -> f64
     ensures { result ≡ floored v }
 {
-    if v < 1e-6 {
-        return 1e-6;
-    }
-    v
+    if v < 1e-6 { 1e-6 } else { v }
 }
 
-fn floor_scal(code: u64, values: [f64; 4]) -> [f64; 4]
-    ensures { result ≡ on_scal code floored values }
+// A change to scal, on the curves that have one.
+#[tactic(auto, unfolding(crate::specs::Trial::on_scal, curves::specs::MeanFn::scal_index_of))]
+fn on_scal<F: Fn(f64) -> f64>(curve: Curve, values: &mut [f64; 4], f: F)
+    requires { F.IsAlwaysCallable f }
+    ensures { (g : Float → Float) → ((x y : Float) → F.post f x y → y ≡ g x) → values.new ≡ on_scal (code_of curve) g values.old }
 {
-    let mut v = values;
-    if code == 1 {
-        v[2] = floor(v[2]);
-        return v;
+    if let Some(i) = curve.scal_index() {
+        values[i] = f(values[i]);
     }
-    if code == 4 {
-        v[3] = floor(v[3]);
-        return v;
-    }
-    v
 }
 
-fn starting_values(p: usize, starts: &[f64]) -> [f64; 4]
-    requires { p ≤ 4 }
-    ensures { result ≡ started p starts.now }
+#[tactic(auto, using(math::specs::laws::Loops::turns, crate::specs::laws::Sized::params_most), unfolding(crate::specs::Trial::started, crate::specs::Lists::each))]
+fn starting_values(q: &NlmmProblem<'_>) -> [f64; 4]
+    ensures { result ≡ started (checked q.now) }
 {
-    let mut v = [0.0; 4];
-    let mut i = 0usize;
-    while i < p {
-        v[i] = math::at(starts, i);
-        i += 1;
+    let mut values = [0.0; 4];
+    for i in 0..q.curve.n_params() {
+        values[i] = q.starts[i];
     }
-    v
+    values
 }
 
 // The adjusted, projected start. The effects are zero and are not projected.
-pub fn start_state(code: u64, starts: &[f64], lower: &[f64], upper: &[f64]) -> State
-    ensures { result ≡ start_from code starts.now lower.now upper.now }
+#[tactic(auto, unfolding(crate::specs::Trial::start_of))]
+pub fn start_state(q: &NlmmProblem<'_>) -> State
+    ensures { result ≡ start_of (checked q.now) }
 {
-    let p = n_params(code);
-    let v = starting_values(p, starts);
-    let w = project_params(p, lower, upper, adjust_scal(code, v));
+    let mut values = starting_values(q);
+    on_scal(q.curve, &mut values, adjust);
+    project_params(q, &mut values);
     State {
-        values: w,
+        values,
         effects: [0.0; 64],
     }
 }
 
-fn move_values(p: usize, d: &[f64], alpha: f64, values: [f64; 4]) -> [f64; 4]
-    requires { (p ≤ 4) × (p ≤ length d.now) }
-    ensures { result ≡ moved_of p 0 d.now alpha values }
+// The first n numbers of a list, by alpha times those of d from place `from` on.
+#[tactic(auto, using(math::specs::laws::Loops::turns), unfolding(crate::specs::Trial::moved_of, crate::specs::Lists::each))]
+fn advance(list: &mut [f64], n: usize, d: &[f64], from: usize, alpha: f64)
+    requires room { n ≤ length list.old }
+    requires long { from + n ≤ length d.now }
+    ensures { list.new ≡ moved_of n from d.now alpha list.old }
 {
-    let mut v = values;
-    let mut j = 0usize;
-    while j < p {
-        v[j] = v[j] + alpha * d[j];
-        j += 1;
+    for j in 0..n {
+        list[j] += alpha * d[from + j];
     }
-    v
-}
-
-// The first n effects, by the components of d after the first p.
-fn move_effects(n: usize, p: usize, d: &[f64], alpha: f64, b: [f64; 64]) -> [f64; 64]
-    requires { (n ≤ 64) × (p + n ≤ length d.now) }
-    ensures { result ≡ moved_of n p d.now alpha b }
-{
-    let mut c = b;
-    let mut j = 0usize;
-    while j < n {
-        c[j] = c[j] + alpha * d[p + j];
-        j += 1;
-    }
-    c
 }
 
 // The floor comes before the projection.
-fn try_values(
-    code: u64,
-    lower: &[f64],
-    upper: &[f64],
-    d: &[f64],
-    alpha: f64,
-    values: [f64; 4],
-) -> [f64; 4]
-    requires { n_params_of code ≤ length d.now }
-    ensures { result ≡ values_tried code lower.now upper.now d.now alpha values }
+#[tactic(auto, using(crate::specs::laws::Sized::params_most), unfolding(crate::specs::Trial::values_tried))]
+fn try_values(q: &NlmmProblem<'_>, values: &mut [f64; 4], d: &[f64], alpha: f64)
+    requires { p (checked q.now) ≤ length d.now }
+    ensures { values.new ≡ values_tried (checked q.now) d.now alpha values.old }
 {
-    let p = n_params(code);
-    let v = move_values(p, d, alpha, values);
-    project_params(p, lower, upper, floor_scal(code, v))
+    advance(values, q.curve.n_params(), d, 0, alpha);
+    on_scal(q.curve, values, floor);
+    project_params(q, values);
 }
 
 // The effects are projected by the trial's values.
-fn try_effects(
-    code: u64,
-    effects: &[usize],
-    groups: usize,
-    group_lower: &[f64],
-    group_upper: &[f64],
-    values: [f64; 4],
-    d: &[f64],
-    alpha: f64,
-    b: [f64; 64],
-) -> [f64; 64]
-    requires { Effects effects.now
-        × ((groups ≤ 32) × (n_params_of code + groups * length effects.now ≤ length d.now)) }
-    ensures { result ≡ effects_tried code effects.now groups group_lower.now group_upper.now values d.now alpha b }
+#[tactic(auto, using(crate::specs::laws::Sized::all_fit), unfolding(crate::specs::Trial::effects_tried))]
+fn try_effects(q: &NlmmProblem<'_>, values: &[f64; 4], b: &mut [f64; 64], d: &[f64], alpha: f64)
+    requires { p (checked q.now) + q.now.groups * k (checked q.now) ≤ length d.now }
+    ensures { b.new ≡ effects_tried (checked q.now) values.now d.now alpha b.old }
 {
-    let p = n_params(code);
-    let n = groups * effects.len();
-    let c = move_effects(n, p, d, alpha, b);
-    project_group_params(effects, groups, group_lower, group_upper, values, c)
+    let n = q.groups * q.effects.len();
+    advance(b, n, d, q.curve.n_params(), alpha);
+    project_group_params(q, values, b);
 }
 
 // The state at length alpha of the direction d, after floor and projection.
-pub fn try_step(
-    code: u64,
-    effects: &[usize],
-    groups: usize,
-    lower: &[f64],
-    upper: &[f64],
-    group_lower: &[f64],
-    group_upper: &[f64],
-    s: State,
-    d: &[f64],
-    alpha: f64,
-) -> State
-    requires { Effects effects.now
-        × ((groups ≤ 32) × (n_params_of code + groups * length effects.now ≤ length d.now)) }
-    ensures { result ≡ tried_from code effects.now groups lower.now upper.now group_lower.now group_upper.now s d.now alpha }
+#[tactic(auto, unfolding(crate::specs::Trial::tried_of))]
+pub fn try_step(q: &NlmmProblem<'_>, s: &State, d: &[f64], alpha: f64) -> State
+    requires { p (checked q.now) + q.now.groups * k (checked q.now) ≤ length d.now }
+    ensures { result ≡ tried_of (checked q.now) s.now d.now alpha }
 {
-    let values = s.values;
-    let b = s.effects;
-    let v = try_values(code, lower, upper, d, alpha, values);
-    let c = try_effects(
-        code,
-        effects,
-        groups,
-        group_lower,
-        group_upper,
-        v,
-        d,
-        alpha,
-        b,
-    );
-    State {
-        values: v,
-        effects: c,
-    }
+    let mut values = s.values;
+    let mut effects = s.effects;
+    try_values(q, &mut values, d, alpha);
+    try_effects(q, &values, &mut effects, d, alpha);
+    State { values, effects }
 }
 
 // The size of the largest component.
+#[tactic(auto, unfolding(crate::specs::Trial::largest_of))]
 pub fn largest(d: &[f64]) -> f64
     ensures { result ≡ largest_of d.now }
 {
-    let mut t = 0.0;
-    let mut i = 0usize;
-    while i < d.len() {
-        t = math::max(t, math::abs(d[i]));
-        i += 1;
-    }
-    t
+    d.iter().fold(0.0, |t, x| math::max(t, math::abs(*x)))
 }
 
 // The size of the largest component of alpha times d.
+#[tactic(auto, unfolding(crate::specs::Trial::largest_of, crate::specs::Trial::step_of))]
 pub fn step_size(alpha: f64, d: &[f64]) -> f64
     ensures { result ≡ step_of alpha d.now }
 {
-    let mut t = 0.0;
-    let mut i = 0usize;
-    while i < d.len() {
-        t = math::max(t, math::abs(alpha * d[i]));
-        i += 1;
-    }
-    t
+    d.iter()
+        .map(|x| alpha * *x)
+        .fold(0.0, |t, x| math::max(t, math::abs(x)))
 }
 
 // Curve 2 with one effect starts at 1e-2.
-pub fn first_lambda(code: u64, k: usize) -> f64
-    ensures { result ≡ lambda_of code k }
+#[tactic(auto, unfolding(crate::specs::Trial::lambda_of))]
+pub fn first_lambda(q: &NlmmProblem<'_>) -> f64
+    ensures { result ≡ first_lambda (checked q.now) }
 {
-    if code != 2 {
-        return 1e-4;
+    if q.curve == Curve::Ssasymp && q.effects.len() == 1 {
+        1e-2
+    } else {
+        1e-4
     }
-    if k != 1 {
-        return 1e-4;
-    }
-    1e-2
 }
 
 // After a win.
+#[tactic(auto, unfolding(crate::specs::Trial::lowered))]
 pub fn lower_lambda(lambda: f64) -> f64
     ensures { result ≡ lowered lambda }
 {
@@ -234,6 +147,7 @@ pub fn lower_lambda(lambda: f64) -> f64
 }
 
 // After a failed attempt.
+#[tactic(auto, unfolding(crate::specs::Trial::raised))]
 pub fn raise_lambda(lambda: f64) -> f64
     ensures { result ≡ raised lambda }
 {

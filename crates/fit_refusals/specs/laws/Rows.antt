@@ -4,7 +4,6 @@ use Rattle.std.specs.Float.{nan, inf}
 use Rattle.std.specs.Float.Ieee.{lt}
 use Rattle.std.specs.Float.Ieee as Ieee
 use Rattle.math.specs.Basic.{is_finite, bits, zero, one, two}
-use Rattle.math.specs.Lists.{every}
 use Rattle.curves.specs.MeanFn.{n_params_of}
 use Rattle.fit_faults.specs.Lists.{in_order}
 use Rattle.fit_faults.specs.Tests.{bad_code, bad_readings, bad_groups, bad_effects, bad_lengths, bad_theta, bad_numbers, bad_order, bad_outputs, too_many}
@@ -13,7 +12,7 @@ use Rattle.fit_refusals.specs.Faults.{first_from, refusal_of, search_refusal_of}
 
 -- `unfolding refusal_computes` opens all that a refusal is computed by
 unfoldable pub refusal_computes : Unit {0}
-unfolding n_params_of is_finite lt every in_order bad_code bad_readings bad_groups bad_effects bad_lengths bad_theta bad_numbers bad_order bad_outputs too_many first_from refusal_of search_refusal_of
+unfolding n_params_of is_finite lt in_order bad_code bad_readings bad_groups bad_effects bad_lengths bad_theta bad_numbers bad_order bad_outputs too_many first_from refusal_of search_refusal_of
 refusal_computes = tt
 
 -- ---- which number wins

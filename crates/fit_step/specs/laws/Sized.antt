@@ -1,11 +1,8 @@
--- A problem without the faults 1 to 5 has the sizes that the fit's functions ask for; p is at most 4, and the effects fit their 64 places.
+-- p is at most 4, and the effects fit their 64 places.
 use Rattle.std.specs.Prelude.{ℕ, ◌+◌, ◌*◌, ◌≤◌, ◌<◌, ◌≡◌, Bool, true, false, cond, eqb}
-use Rattle.std.proofs.Common.{sym, subst, lt_of_lt_of_le, mul-le-mul_right, arith}
+use Rattle.std.proofs.Common.{mul-le-mul_right, arith}
 use Rattle.math.specs.laws.Parts.{group_fits}
 use Rattle.curves.specs.MeanFn.{n_params_of}
-use Rattle.fit_refusals.specs.Problem.{Problem}
-use Rattle.fit_refusals.specs.laws.Valid.{Sized}
-use Rattle.fit_step.specs.Sized.{Effects, Readings}
 
 most : (a b : Bool) → cond a 2 (cond b 4 3) ≤ 4
 most true b = omega arith
@@ -26,17 +23,3 @@ all_fit groups k p q = omega (arith, mul-le-mul_right k p)
 
 pub slot_fits : (g groups k : ℕ) → g < groups → groups ≤ 32 → k ≤ 2 → g * k + k ≤ 64
 slot_fits g groups k p q r = omega (arith, group_fits g groups k p, all_fit groups k q r)
-
-module _ (q : Problem) (h : Sized q) where
-  pub effects_sized : Effects q.effects
-  effects_sized =
-      record { some = h.effects_low; two = h.effects_high; within = λ r i. lt_of_lt_of_le (h.index r i) (params_most q.code) }
-
-  pub readings_sized : Readings q.doses q.grams q.group
-  readings_sized =
-      record {
-        many = h.readings_high;
-        grams_each = h.grams;
-        group_each = h.group;
-        grouped = λ i p. lt_of_lt_of_le (h.member i (subst (λ (n : ℕ). i < n) (sym h.group) p)) h.groups_high;
-      }

@@ -27,6 +27,15 @@ module _ {A : Type 0} where
   pub iter_all : (f : ℕ → A → A) (n i : ℕ) (a : A) {s : A} → s ≡ iter f i a → i ≤ n → n ≤ i → s ≡ iter f n a
   iter_all f n i a {s} h p q = let e : i ≡ n = omega arith in rw e at h
 
+  -- both as equations of the loop, for a function's `using`
+  pub iter_zero : (f : ℕ → A → A) (a : A) → iter f 0 a ≡ a
+  unfolding iter
+  iter_zero f a = refl
+
+  pub iter_next : (f : ℕ → A → A) (i : ℕ) (a : A) → iter f (i + 1) a ≡ f i (iter f i a)
+  unfolding iter
+  iter_next f i a = rw (add-one i) refl
+
   pub span_none : (f : ℕ → A → A) (lo : ℕ) (a : A) → a ≡ span f lo lo a
   unfolding from
   span_none f lo a = let e : lo - lo ≡ 0 = omega arith in rw e
@@ -54,3 +63,6 @@ module _ {A B : Type 0} (stop : ℕ → A → Bool) (out : ℕ → A → B) (ste
   pub until_done : (n i : ℕ) (s : A) → n ≤ i → until stop out step done (n - i) i s ≡ done s
   unfolding until
   until_done n i s p = let e : n - i ≡ 0 = omega arith in rw e
+
+-- the turns of `iter`, one by one
+pub ruleset turns = (iter_zero, iter_next)

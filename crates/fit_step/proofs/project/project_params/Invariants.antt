@@ -1,13 +1,9 @@
--- The first i values are clamped, the others are as they came; the measure is the number of values left.
+-- The first i values are clamped, the others are as they came.
 use mathlib.Core.Path.{◌≡◌}
-use Prim.Native.Nat.{◌-◌, ◌≤◌}
 use Rattle.math.specs.Loops.{iter}
 use Rattle.fit_step.specs.Lists.{each_at}
 use Rattle.fit_step.specs.Project.{clamp_at}
 use Rattle.fit_step.proofs.project.project_params.Given as goal
 
 abbrev pub invariant-loop-i : goal.invariant-loop-i
-invariant-loop-i l = (l.i ≤ l.p) × (l.v ≡ iter (each_at (clamp_at l.lower l.upper)) l.i l.initial.v)
-
-abbrev pub decreases-loop-i : goal.decreases-loop-i
-decreases-loop-i l = l.p - l.i
+invariant-loop-i l = l.values ≡ iter (each_at (clamp_at l.q.lower.now l.q.upper.now)) l.i l.initial.values
