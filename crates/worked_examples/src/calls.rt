@@ -1,7 +1,7 @@
 // The calls whose sizes are weighed, of curve 3 from 8, 1: n of the readings in m groups, one effect at the first value, 5 rounds
 // at most. The first value has the bounds 1 and 20, the second 1 and `top`, the groups none.
 use crate::readings::{in_turn, rising};
-use criterion::Profile;
+use criterion::profile::Profile;
 use fit::Fitted;
 use fit_refusals::Problem;
 use golden::Found;

@@ -2,7 +2,7 @@
 // does, bit for bit, and what is refused must leave every bit of the lists that it was lent.
 use crate::calls::{Called, all_kept, criterion, fit, search, start};
 use crate::say::say;
-use criterion::Profile;
+use criterion::profile::Profile;
 use fit::Fitted;
 use golden::Found;
 use math::words::of_bits;
