@@ -36,6 +36,18 @@ impl TryFrom<u64> for Curve {
 }
 
 impl Curve {
+    // The code that `try_from` takes for this curve.
+    pub fn code(self) -> u64
+        ensures { result ≡ code_of self }
+    {
+        match self {
+            Curve::Sslogis => 1,
+            Curve::Ssasymp => 2,
+            Curve::Ssmicmen => 3,
+            Curve::Ssfpl => 4,
+        }
+    }
+
     // How many values the curve has.
     #[tactic(auto, unfolding(crate::specs::MeanFn::n_params_of))]
     pub fn n_params(self) -> usize

@@ -1,5 +1,6 @@
 // One test for each of document 01's numbered faults of a fit, a criterion or a search; the first, a code that no
-// curve has, is told by `Curve::try_from`.
+// curve has, is told by `Curve::try_from`. Each takes the lists or lengths that it tests, since the record of a call's
+// arguments stands in a crate above this one.
 #![tactic(auto)]
 
 ghost use Rattle.std.specs.Prelude.{◌≡◌, ◌≤◌};

@@ -32,6 +32,7 @@ pub fn gh_order(n_agq: u64) -> u64
 const MAX_POINTS: usize = 400;
 
 // Whether k dimensions of ord points each have no more than MAX_POINTS points. It stops at the first power above.
+#[tactic(auto, using(crate::proofs::OrderLaws::power_above))]
 fn power_fits(ord: usize, k: usize) -> bool
     ensures { result ≡ leb (ord ^ k) max_points }
 {
