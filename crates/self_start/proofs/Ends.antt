@@ -6,6 +6,7 @@ use Prim.Native.Nat.{ℕ, suc, ◌-◌}
 use native.Mathlib.Omega.{arith}
 use lib.ListN.{length, get_or}
 use lib.Ieee.{Float, lt}
+use Rattle.std.specs.Prelude.{Option, Some, None}
 use Rattle.math.specs.laws.Order.{clash, lt_le, lt_self}
 use Rattle.sorting.specs.Pairs.{Pair}
 use Rattle.sorting.specs.Sort.{insert, NoneBelow, Sorted}
@@ -15,23 +16,23 @@ unfoldable pub last_of : Pair → List Pair → Pair
 last_of d [] = d
 last_of d (p ∷ ps) = last_of p ps
 
-unfoldable pub first_of : Pair → List Pair → Pair
-first_of d [] = d
-first_of d (p ∷ ps) = p
+-- the last; the first and the last
+unfoldable pub last_in : List Pair → Option Pair
+last_in [] = None
+last_in (p ∷ ps) = Some (last_of p ps)
 
--- 1 where there is a pair, as the sides tell it
-unfoldable pub some : List Pair → ℕ
-some [] = 0
-some (p ∷ ps) = 1
+unfoldable pub ends_in : List Pair → Option (Pair × Pair)
+ends_in [] = None
+ends_in (p ∷ ps) = Some (p, last_of p ps)
 
-pub some_insert : (p : Pair) (l : List Pair) → some (insert p l) ≡ 1
-unfolding some
-some_insert p [] = ap some (insert_none p)
-some_insert p (q ∷ l) = by_test (lt q.0 p.0) refl
+pub last_in_insert : (d p : Pair) (l : List Pair) → last_in (insert p l) ≡ Some (last_of d (insert p l))
+unfolding last_in last_of
+last_in_insert d p [] = rw (insert_none p)
+last_in_insert d p (q ∷ l) = by_test (lt q.0 p.0) refl
   where
-    by_test : (t : Bool) → lt q.0 p.0 ≡ t → some (insert p (q ∷ l)) ≡ 1
-    by_test true e = ap some (insert_past p q l e)
-    by_test false e = ap some (insert_here p q l e)
+    by_test : (t : Bool) → lt q.0 p.0 ≡ t → last_in (insert p (q ∷ l)) ≡ Some (last_of d (insert p (q ∷ l)))
+    by_test true e = rw (insert_past p q l e)
+    by_test false e = rw (insert_here p q l e)
 
 last_none : (k : Float) (d : Pair) (l : List Pair) → lt d.0 k ≡ false → NoneBelow k l → lt (last_of d l).0 k ≡ false
 unfolding NoneBelow last_of
@@ -61,11 +62,6 @@ last_stays d p q (r ∷ l) h = by_test (last_stays q p r l h) (lt q.0 p.0) refl
     by_test : last_of q (insert p (r ∷ l)) ≡ last_of r l → (t : Bool) → lt q.0 p.0 ≡ t → last_of d (insert p (q ∷ (r ∷ l))) ≡ last_of r l
     by_test ih true e = ap (last_of d) (insert_past p q (r ∷ l) e) ∙ ih
     by_test ih false e = ap (last_of d) (insert_here p q (r ∷ l) e)
-
-pub some_append : (l : List Pair) (h : Pair) (hs : List Pair) → some (l ++ (h ∷ hs)) ≡ 1
-unfolding some
-some_append [] h hs = refl
-some_append (p ∷ l) h hs = refl
 
 pub last_append : (d : Pair) (l : List Pair) (h : Pair) (hs : List Pair) → last_of d (l ++ (h ∷ hs)) ≡ last_of h hs
 unfolding last_of

@@ -1,22 +1,20 @@
 -- No dose that is sorted and no gram of a point is a NaN: the readings that are kept are finite, and the mean of finite grams is a number, if perhaps an infinite one. Assumes nothing.
-use mathlib.Core.Path.{◌≡◌, refl, sym}
-use mathlib.Core.Bool.{Bool, true, false, ◌&&◌, cond}
+use mathlib.Core.Path.{◌≡◌, refl}
+use mathlib.Core.Bool.{Bool, true, false, ◌&&◌, cond, not}
 use mathlib.Core.List.{List, [], ◌∷◌}
 use Prim.Native.Nat.{ℕ, ◌+◌, ◌^◌, ◌≤◌}
-use native.Mathlib.Nat.{suc_inj}
 use native.Mathlib.Omega.{arith}
-use lib.ListN.{length, take, length-take}
+use lib.ListN.{length}
 use lib.Ieee.{Float, binary64, lt, is_nan, round, of_int}
 use lib.Ieee.Back.{round_whole}
 use lib.Ieee.Positive.{positive_of_value}
 use Rattle.math.specs.Basic.{is_finite, add}
 use Rattle.math.specs.laws.Numbers.{finite_number, add_number, div_number}
 use Rattle.math.specs.laws.Order.{clash'}
-use Rattle.sorting.specs.Pairs.{Pair, zip, seconds, Front}
-use Rattle.sorting.specs.Sort.{insert, insert_all, sort_of, Numbers, Sortable}
+use Rattle.sorting.specs.Pairs.{Pair}
+use Rattle.sorting.specs.Sort.{insert, insert_all, sort_of, Keyed, Sortable}
 use Rattle.sorting.specs.laws.Sort.{insert_past, insert_here, insert_none}
-use Rattle.self_start.specs.Points.{finite_pairs, near_of, mean_of, run_of, averaged_of, sorted_xy_data}
-use Rattle.sorting.specs.laws.Zips.{zip_seconds}
+use Rattle.self_start.specs.Points.{swapped, numbered, finite_pairs, near_of, mean_of, run_of, averaged_of}
 
 -- every pair is finite
 unfoldable pub Finite : List Pair → Type 0
@@ -32,7 +30,7 @@ gram_finite : (p : Pair) → (is_finite p.0 && is_finite p.1) ≡ true → is_fi
 gram_finite p h = (and_true (is_finite p.0) (is_finite p.1) h).1
 
 finite_pairs_lem : (l : List Pair) → Finite (finite_pairs l)
-unfolding finite_pairs Finite
+unfolding Finite
 finite_pairs_lem [] = tt
 finite_pairs_lem (p ∷ ps) = by_test (finite_pairs_lem ps) (is_finite p.0 && is_finite p.1) refl
   where
@@ -40,16 +38,21 @@ finite_pairs_lem (p ∷ ps) = by_test (finite_pairs_lem ps) (is_finite p.0 && is
     by_test ih true h = (h, ih)
     by_test ih false h = ih
 
-finite_doses : (xs ys : List Float) → length ys ≡ length xs → Finite (zip xs ys) → Numbers xs
-unfolding zip Finite Numbers
-finite_doses [] ys e f = tt
-finite_doses (x ∷ xs) [] e f = absurd (omega (arith, e))
-finite_doses (x ∷ xs) (y ∷ ys) e f = (finite_number x (and_true (is_finite x) (is_finite y) f.0).0, finite_doses xs ys (suc_inj e) f.1)
+finite_keyed : (l : List Pair) → Finite l → Keyed l
+unfolding Finite Keyed
+finite_keyed [] f = tt
+finite_keyed (p ∷ ps) f = (finite_number p.0 (and_true (is_finite p.0) (is_finite p.1) f.0).0, finite_keyed ps f.1)
 
-pub readings_sortable : (x y : List Float) (n : ℕ) (l : List Pair) → Front x y n (finite_pairs l) → Sortable (take n x) (take n y)
-readings_sortable x y n l f =
-    let e : length (take n y) ≡ length (take n x) = rw (length-take n y, length-take n x, f.long_x, f.long_y) in
-    record { even = e; few = omega (arith, length-take n x); numbers = finite_doses (take n x) (take n y) e (rw f.pairs (finite_pairs_lem l)) }
+finite_few : (l : List Pair) → length (finite_pairs l) ≤ length l
+finite_few [] = omega arith
+finite_few (p ∷ ps) = by_test (finite_few ps) (is_finite p.0 && is_finite p.1)
+  where
+    by_test : length (finite_pairs ps) ≤ length ps → (t : Bool) → length (cond t (p ∷ finite_pairs ps) (finite_pairs ps)) ≤ length (p ∷ ps)
+    by_test h true = omega arith
+    by_test h false = omega arith
+
+pub readings_sortable : (l : List Pair) → length l ≤ 512 → Sortable (finite_pairs l)
+readings_sortable l few = record { few = omega (arith, finite_few l, few); keyed = finite_keyed (finite_pairs l) (finite_pairs_lem l) }
 
 finite_insert : (p : Pair) (l : List Pair) → (is_finite p.0 && is_finite p.1) ≡ true → Finite l → Finite (insert p l)
 unfolding Finite
@@ -73,32 +76,35 @@ mean_number s n p a b =
     let w : n ≤ 2 ^ 53 = omega arith in
     div_number s (round binary64 false n 1) p (positive_of_value (round binary64 false n 1) n 1 (round_whole binary64 false n w) a)
 
-run_numbers : (xval s : Float) (n : ℕ) (l : List Pair) → is_nan s ≡ false → 1 ≤ n → n + length l ≤ 512 → Finite l → Numbers (seconds (run_of xval s n l))
-unfolding run_of seconds Numbers Finite
-run_numbers xval s n [] p a b f = (mean_number s n p a (omega (arith, b)), tt)
-run_numbers xval s n (q ∷ qs) p a b f =
+run_numbered : (xval s : Float) (n : ℕ) (l : List Pair) → is_nan s ≡ false → 1 ≤ n → n + length l ≤ 512 → Finite l → numbered (run_of xval s n l) ≡ true
+unfolding run_of Finite
+run_numbered xval s n [] p a b f = rw (mean_number s n p a (omega (arith, b)))
+run_numbered xval s n (q ∷ qs) p a b f =
     let g = gram_finite q f.0 in
     by_test
-    (run_numbers xval (add s q.1) (n + 1) qs (add_number s q.1 p g) (omega arith) (omega (arith, b)) f.1)
-    (run_numbers q.0 q.1 1 qs (finite_number q.1 g) (omega arith) (omega (arith, b)) f.1)
+    (run_numbered xval (add s q.1) (n + 1) qs (add_number s q.1 p g) (omega arith) (omega (arith, b)) f.1)
+    (run_numbered q.0 q.1 1 qs (finite_number q.1 g) (omega arith) (omega (arith, b)) f.1)
     (near_of q.0 xval)
   where
-    by_test : Numbers (seconds (run_of xval (add s q.1) (n + 1) qs)) → Numbers (seconds (run_of q.0 q.1 1 qs)) → (t : Bool)
-        → Numbers (seconds (cond t (run_of xval (add s q.1) (n + 1) qs) ((xval, mean_of s n) ∷ run_of q.0 q.1 1 qs)))
+    by_test : numbered (run_of xval (add s q.1) (n + 1) qs) ≡ true → numbered (run_of q.0 q.1 1 qs) ≡ true → (t : Bool)
+        → numbered (cond t (run_of xval (add s q.1) (n + 1) qs) ((xval, mean_of s n) ∷ run_of q.0 q.1 1 qs)) ≡ true
     by_test near far true = near
-    by_test near far false = (mean_number s n p a (omega (arith, b)), far)
+    by_test near far false = rw (mean_number s n p a (omega (arith, b))) far
 
-averaged_numbers : (l : List Pair) → length l ≤ 512 → Finite l → Numbers (seconds (averaged_of l))
-unfolding averaged_of seconds Numbers Finite
-averaged_numbers [] b f = tt
-averaged_numbers (p ∷ ps) b f = run_numbers p.0 p.1 1 ps (finite_number p.1 (gram_finite p f.0)) (omega arith) (omega (arith, b)) f.1
+averaged_numbered : (l : List Pair) → length l ≤ 512 → Finite l → numbered (averaged_of l) ≡ true
+unfolding averaged_of Finite
+averaged_numbered [] b f = refl
+averaged_numbered (p ∷ ps) b f = run_numbered p.0 p.1 1 ps (finite_number p.1 (gram_finite p f.0)) (omega arith) (omega (arith, b)) f.1
 
-pub points_sortable : (u v : List Float) (n : ℕ) (l : List Pair) → Front u v n (sorted_xy_data l) → length (sort_of (finite_pairs l)) ≤ 512 → Sortable (take n v) (take n u)
-unfolding sorted_xy_data
-points_sortable u v n l f b =
-    let e : length (take n v) ≡ length (take n u) = rw (length-take n v, length-take n u, f.long_x, f.long_y) in
-    record {
-      even = sym e;
-      few = omega (arith, length-take n v);
-      numbers = rw (← zip_seconds (take n u) (take n v) e, f.pairs) (averaged_numbers (sort_of (finite_pairs l)) b (finite_sort (finite_pairs l) (finite_pairs_lem l)));
-    }
+pub points_numbered : (l : List Pair) → length (sort_of (finite_pairs l)) ≤ 512 → numbered (averaged_of (sort_of (finite_pairs l))) ≡ true
+points_numbered l b = averaged_numbered (sort_of (finite_pairs l)) b (finite_sort (finite_pairs l) (finite_pairs_lem l))
+
+-- the points turned around, to be sorted by grams
+pub grams_keyed : (l : List Pair) → numbered l ≡ true → Keyed (swapped l)
+unfolding Keyed
+grams_keyed [] h = tt
+grams_keyed (p ∷ ps) h = let b = and_true (not (is_nan p.1)) (numbered ps) h in (not_true (is_nan p.1) b.0, grams_keyed ps b.1)
+  where
+    not_true : (b : Bool) → not b ≡ true → b ≡ false
+    not_true true h = clash' h
+    not_true false h = refl

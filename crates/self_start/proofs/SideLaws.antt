@@ -2,23 +2,20 @@
 use mathlib.Core.Path.{◌≡◌, refl, sym, ap, ◌∙◌}
 use mathlib.Core.Bool.{Bool, true, false, cond, and-false}
 use mathlib.Core.List.{List, [], ◌∷◌, ◌++◌, append-nil}
-use Prim.Native.Nat.{ℕ, ◌+◌, ◌-◌, ◌≤◌, ◌<◌}
+use Prim.Native.Nat.{◌<◌}
 use native.Mathlib.Omega.{arith}
-use lib.ListN.{length, drop, get_or}
+use lib.ListN.{length, length-append}
 use lib.Ieee.{Float, nan, lt, le, eq, is_nan}
 use lib.Dec.{eqb}
 use borrow.Author.Tests.{ne_eqb}
 use Rattle.math.specs.laws.Order.{clash, above_num, not_above, lt_is_le, not_below, is_nan_lem}
-use Rattle.sorting.specs.Pairs.{Pair, zip}
-use Rattle.sorting.specs.Sort.{sort_of, NoneBelow, Sorted}
-use Rattle.sorting.specs.laws.Sort.{Keyed}
+use Rattle.sorting.specs.Pairs.{Pair}
+use Rattle.sorting.specs.Sort.{sort_of, Keyed, NoneBelow, Sorted}
 use Rattle.self_start.specs.Points.{between_of, window_of, approx_of}
-use Rattle.self_start.specs.Sides.{no_sides, put_of, approx_sides}
+use Rattle.self_start.specs.Sides.{no_sides, ends_of, approx_sides}
 use Rattle.self_start.specs.laws.Sides.{sides_of}
-use Rattle.self_start.specs.declared.points.Sides.{Sides}
-use Rattle.self_start.proofs.Ends.{last_of, first_of, some, some_append, last_append, last_at}
+use Rattle.self_start.proofs.Ends.{last_of, last_in, ends_in, last_append, last_at}
 use Rattle.self_start.proofs.Cut.{describe, Below, below_last, cut}
-use Rattle.sorting.specs.laws.Zips.{pair_at_lem, pairs_end}
 
 cond_same : (b : Bool) (x : Float) → cond b x x ≡ x
 cond_same true x = refl
@@ -56,9 +53,9 @@ module _ (t other : Float) where
   unfolding approx_of
   approx_one p = refl
 
-  approx_many : (p : Pair) (r : List Pair) → some r ≡ 1
+  approx_many : (p : Pair) (r : List Pair) → 0 < length r
       → approx_of (p ∷ r) t other ≡ cond (le t p.0) p.1 (cond (le (last_of p r).0 t) (last_of p r).1 (window_of p r t))
-  unfolding approx_of some
+  unfolding approx_of
   approx_many p [] h = absurd (omega (arith, h))
   approx_many p (q ∷ l) h =
       let a : eqb (length (p ∷ (q ∷ l))) 0 ≡ false = ne_eqb _ 0 (λ (z : length (p ∷ (q ∷ l)) ≡ 0). omega (arith, z)) in
@@ -73,9 +70,9 @@ module _ (t other : Float) where
       by_test true o = o
       by_test false o = clash (sym (not_below p.0 t n o h) ∙ e)
 
-  highs_alone : (p : Pair) (r : List Pair) → is_nan p.0 ≡ false → lt p.0 t ≡ false → some r ≡ 1
+  highs_alone : (p : Pair) (r : List Pair) → is_nan p.0 ≡ false → lt p.0 t ≡ false
       → cond (le t p.0) p.1 (last_of p r).1 ≡ cond (le t p.0) p.1 (cond (le (last_of p r).0 t) (last_of p r).1 (window_of p r t))
-  highs_alone p r n h o = by_test (le t p.0) refl
+  highs_alone p r n h = by_test (le t p.0) refl
     where
       by_test : (b : Bool) → le t p.0 ≡ b → cond b p.1 (last_of p r).1 ≡ cond b p.1 (cond (le (last_of p r).0 t) (last_of p r).1 (window_of p r t))
       by_test true e = refl
@@ -83,35 +80,21 @@ module _ (t other : Float) where
           sym (ap (λ w. cond (le (last_of p r).0 t) (last_of p r).1 w) (window_nan p r (first_or_nan p n h e)) ∙ cond_same (le (last_of p r).0 t) (last_of p r).1)
 
   parts : (l h : List Pair) → Below t l → NoneBelow t h → Sorted h → approx_sides (describe l h) t other ≡ approx_of (l ++ h) t other
-  unfolding approx_sides between_of some last_of first_of Below NoneBelow Sorted
+  unfolding ends_of last_in ends_in last_of Below NoneBelow Sorted
   parts [] [] b n s = sym approx_none
   parts [] (p ∷ []) b n s = cond_same (le t p.0) p.1 ∙ sym (approx_one p)
-  parts [] (p ∷ (q ∷ r)) b n s = highs_alone p (q ∷ r) s.0 n.0 refl ∙ sym (approx_many p (q ∷ r) refl)
+  parts [] (p ∷ (q ∷ r)) b n s = highs_alone p (q ∷ r) s.0 n.0 ∙ sym (approx_many p (q ∷ r) (omega arith))
   parts (p ∷ []) [] b n s = sym (approx_one p)
   parts (p ∷ (q ∷ r)) [] b n s =
       let e : le t p.0 ≡ false = not_above _ _ b.0 in
       let f : le (last_of q r).0 t ≡ true = lt_is_le _ _ (below_last t q r b.1.0 b.1.1) in
-      sym (ap (λ k. approx_of k t other) (append-nil (p ∷ (q ∷ r))) ∙ approx_many p (q ∷ r) refl ∙ rw (e, f))
+      sym (ap (λ k. approx_of k t other) (append-nil (p ∷ (q ∷ r))) ∙ approx_many p (q ∷ r) (omega arith) ∙ rw (e, f))
   parts (p ∷ l) (h ∷ hs) b n s =
       let e : le t p.0 ≡ false = not_above _ _ b.0 in
       let g : le t h.0 ≡ true = not_below h.0 t s.0 (above_num p.0 t b.0) n.0 in
-      sym (approx_many p (l ++ (h ∷ hs)) (some_append l h hs) ∙ rw (e, last_append p l h hs, window_cut p l h hs b.0 b.1 g))
+      sym (approx_many p (l ++ (h ∷ hs)) (rw (length-append l (h ∷ hs)) (omega arith)) ∙ rw (e, last_append p l h hs, window_cut p l h hs b.0 b.1 g))
 
-pub sides_approx : (t other : Float) (ps : List Pair) → Keyed ps → approx_sides (sides_of t ps) t other ≡ approx_of (sort_of ps) t other
+pub sides_approx : (t other : Float) (ps : List Pair) → Keyed ps → approx_sides (sides_of t no_sides ps) t other ≡ approx_of (sort_of ps) t other
 sides_approx t other ps k =
     let c = cut t ps k in
     ap (λ s. approx_sides s t other) c.sides ∙ parts t other c.lows c.highs c.under c.over c.sorted_highs ∙ sym (ap (λ l. approx_of l t other) c.whole)
-
--- ---- the loop, from the end
-
-module _ (xs ys : List Float) (e : length ys ≡ length xs) (t : Float) where
-  pub sides_none : (i : ℕ) → length xs ≤ i → no_sides ≡ sides_of t (drop i (zip xs ys))
-  unfolding sides_of
-  sides_none i p = rw (pairs_end xs ys e i p)
-
-  pub sides_more : (i : ℕ) (s : Sides) → 0 < i → i ≤ length xs → s ≡ sides_of t (drop i (zip xs ys))
-      → put_of t (get_or xs (i - 1) nan, get_or ys (i - 1) nan) s ≡ sides_of t (drop (i - 1) (zip xs ys))
-  unfolding sides_of
-  sides_more i s p q h =
-      let n : i - 1 + 1 ≡ i = omega arith in
-      rw (pair_at_lem xs ys e (i - 1) (omega arith), n, h)

@@ -1,17 +1,28 @@
 -- `sorted_xy_data`, `approx` and `approx_x_from_y` of self_start.rs, on lists of pairs: a dose and its grams.
-use Rattle.std.specs.Prelude.{Bool, true, false, cond, ◌&&◌, List, [], ◌∷◌, ℕ, ◌+◌, ◌-◌, eqb, pos, length, drop, Float}
+use Rattle.std.specs.Prelude.{Bool, true, false, not, cond, ◌&&◌, List, [], ◌∷◌, ℕ, ◌+◌, ◌-◌, eqb, pos, length, drop, map, Float}
+use Rattle.std.specs.List.{filter, fold, list_all}
 use Rattle.std.specs.Float.{inf, binary64}
-use Rattle.std.specs.Float.Ieee.{lt, le, of_int}
+use Rattle.std.specs.Float.Ieee.{lt, le, of_int, is_nan}
 use Rattle.math.specs.Basic.{add, sub, mul, div, bits, one, abs_of, max_of, min_of, is_finite}
-use Rattle.sorting.specs.Pairs.{Pair, pair_at, swapped}
+use Rattle.sorting.specs.Pairs.{Pair, pair_at}
 use Rattle.sorting.specs.Sort.{sort_of}
+
+-- the second components; each pair the other way round
+abbrev pub seconds : List Pair → List Float
+seconds = map (λ p. p.1)
+
+abbrev pub swapped : List Pair → List Pair
+swapped = map (λ p. (p.1, p.0))
+
+-- no gram is a NaN
+abbrev pub numbered : List Pair → Bool
+numbered = list_all (λ p. not (is_nan p.1))
 
 -- ---- `sorted_xy_data`
 
 -- its filter: the pairs of which both are finite, in reading order
-unfoldable pub finite_pairs : List Pair → List Pair
-finite_pairs [] = []
-finite_pairs (p ∷ ps) = cond (is_finite p.0 && is_finite p.1) (p ∷ finite_pairs ps) (finite_pairs ps)
+abbrev pub finite_pairs : List Pair → List Pair
+finite_pairs = filter (λ p. is_finite p.0 && is_finite p.1)
 
 -- its inner test: the dose is no further from its run's first, `xval`, than 1e-12 times the larger of that one's size and 1
 unfoldable pub near_of : Float → Float → Bool
@@ -66,16 +77,8 @@ approx_x_from_y ps yTarget other = approx_of (sort_of (swapped ps)) yTarget othe
 
 -- ---- the folds by `f64::max` and `f64::min`, from the infinities
 
-unfoldable pub largest_of : Float → List Float → Float
-largest_of m [] = m
-largest_of m (y ∷ ys) = largest_of (max_of m y) ys
-
-unfoldable pub smallest_of : Float → List Float → Float
-smallest_of m [] = m
-smallest_of m (y ∷ ys) = smallest_of (min_of m y) ys
-
 abbrev pub most_of : List Float → Float
-most_of ys = largest_of (inf true) ys
+most_of = fold max_of (inf true)
 
 abbrev pub least_of : List Float → Float
-least_of ys = smallest_of (inf false) ys
+least_of = fold min_of (inf false)

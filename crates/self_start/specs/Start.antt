@@ -1,12 +1,14 @@
 -- The start of each curve, after self_start.rs, and the public operation of document 01.
-use Rattle.std.specs.Prelude.{Bool, not, cond, ◌&&◌, ◌||◌, List, [], ◌∷◌, ℕ, ◌/◌, ltb, eqb, length, Float}
+use Rattle.std.specs.Prelude.{Bool, not, cond, ◌&&◌, ◌||◌, ⊤, Result, Ok, Err, List, [], ◌∷◌, ℕ, ◌/◌, ltb, eqb, length, Float}
+use Rattle.std.specs.List.{zip}
 use Rattle.std.specs.Float.Ieee.{lt, le}
 use Rattle.math.specs.Basic.{add, sub, mul, div, bits, zero, half, one, two, abs_of, max_of, is_finite}
 use Rattle.math.specs.Ln.{ln_of}
-use Rattle.sorting.specs.Pairs.{Pair, pair_at, zip, seconds}
-use Rattle.self_start.specs.Points.{sorted_xy_data, approx_x_from_y, most_of, least_of}
-use Rattle.self_start.specs.declared.Answer.{Answer}
-use Rattle.self_start.specs.declared.Answer.TheVariants.{Refused, Done}
+use Rattle.refusal.specs.declared.Refusal.{Refusal}
+use Rattle.refusal.specs.Refusal.{number_of}
+use Rattle.sorting.specs.Pairs.{Pair, pair_at}
+use Rattle.curves.specs.MeanFn.{no_curve, n_params_of}
+use Rattle.self_start.specs.Points.{seconds, sorted_xy_data, approx_x_from_y, most_of, least_of}
 
 -- 1e-8
 abbrev pub tiny : Float
@@ -90,10 +92,6 @@ ssfpl_start ps = cond (ltb (length ps) 4 || not (apart_of (least ps) (most ps)))
 
 -- ---- `self_start`, by code
 
--- how many values a curve has: 3, 3, 2, 4
-unfoldable pub count_of : ℕ → ℕ
-count_of code = cond (eqb code 3) 2 (cond (eqb code 4) 4 3)
-
 unfoldable pub from_points : ℕ → List Pair → List Float
 from_points code ps = cond (eqb code 1) (sslogis_start ps) (cond (eqb code 2) (ssasymp_start ps) (cond (eqb code 3) (ssmicmen_start ps) (ssfpl_start ps)))
 
@@ -105,12 +103,14 @@ start_of code doses grams = from_points code (sorted_xy_data (zip doses grams))
 -- the number of the first fault, and 0 where there is none: 1 no such curve; 2 over 512 readings or unequal lists; 9 a list of the wrong length for the values
 unfoldable pub fault_of : ℕ → ℕ → ℕ → ℕ → ℕ
 fault_of code doses grams values =
-    cond (ltb code 1 || ltb 4 code) 1
+    cond (no_curve code) 1
     (cond (ltb 512 doses || not (eqb doses grams)) 2
-    (cond (eqb values (count_of code)) 0 9))
+    (cond (eqb values (n_params_of code)) 0 9))
 
-unfoldable pub answer_of : ℕ → Answer
-answer_of fault = cond (eqb fault 0) Done (Refused fault)
+-- the number that an answer stands for
+abbrev pub told : Result ⊤ Refusal → ℕ
+told (Ok u) = 0
+told (Err e) = number_of e
 
 -- the list of values after a call: on a refusal as it was
 unfoldable pub written_of : ℕ → List Float → List Float → List Float → List Float

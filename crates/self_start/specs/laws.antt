@@ -1,5 +1,3 @@
 -- What is proved of the definitions: laws, steps and rows by computation. Nothing here has to be believed.
-pub mod Answers
 pub mod Sides
 pub mod Computes
-pub mod Start

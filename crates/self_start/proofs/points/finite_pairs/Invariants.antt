@@ -1,13 +1,15 @@
 -- The pairs written so far, with the finite ones of those still to be read, are all the finite ones.
-use Prim.Native.Nat.{◌-◌, ◌≤◌}
-use lib.ListN.{length, drop}
-use Rattle.sorting.specs.Pairs.{zip}
+use Rattle.std.proofs.Common.{◌≡◌, ◌+◌, ◌≤◌, ◌++◌, length, take}
+use Rattle.std.specs.List.{zip}
 use Rattle.self_start.specs.Points.{finite_pairs}
-use Rattle.sorting.specs.laws.Written.{Written}
 use Rattle.self_start.proofs.points.finite_pairs.Given as goal
 
-abbrev pub invariant-loop-i : goal.invariant-loop-i
-invariant-loop-i l = (l.n ≤ l.i) × ((l.i ≤ length l.doses) × Written 512 l.x l.y l.n (finite_pairs (drop l.i (zip l.doses l.grams))) (finite_pairs (zip l.doses l.grams)))
-
-abbrev pub decreases-loop-i : goal.decreases-loop-i
-decreases-loop-i l = length l.doses - l.i
+abbrev pub invariant-loop-dose : goal.invariant-loop-dose
+invariant-loop-dose l =
+    let doses = l.dose-iterator.a.rest.now in
+    let grams = l.dose-iterator.b.rest.now in
+    record {
+      same_len : length grams ≡ length doses;
+      fits : l.n + length doses ≤ length l.room;
+      so_far : take l.n l.room ++ finite_pairs (zip doses grams) ≡ finite_pairs (zip l.doses l.grams);
+    }

@@ -1,61 +1,27 @@
--- `sorted_xy_data` meets its contract: what each call ensures, one after the other. Assumes nothing.
-use mathlib.Core.Path.{sym, ap, ◌∙◌}
-use Prim.Native.Nat.{◌≤◌}
-use lib.ListN.{length}
-use Rattle.self_start.specs.Points.{sorted_xy_data}
-use Rattle.sorting.specs.laws.Lent.{front, lent_count, lent_long, lent_take, lent_front}
-use Rattle.self_start.proofs.Grams.{readings_sortable, points_sortable}
-use Rattle.sorting.specs.laws.Zips.{zip_length}
-use native.Mathlib.Omega.{arith}
+-- Of finite readings none is a NaN, nor is a mean of their grams.
+use Rattle.std.proofs.Common.{◌≡◌, ◌≤◌, length, ap, ◌∙◌, arith}
+use Rattle.std.specs.List.{zip}
+use Rattle.std.proofs.lemmas.Slice.Zip.{length-zip}
+use Rattle.sorting.specs.Sort.{sort_of}
+use Rattle.self_start.specs.Points.{finite_pairs}
+use Rattle.self_start.proofs.Grams.{readings_sortable, points_numbered}
 use Rattle.self_start.proofs.points.sorted_xy_data.Goals as goal
 
-pub slice_bounds-sort-end : goal.slice_bounds-sort-end
-slice_bounds-sort-end c = front _ _ (omega arith)
-
-pub slice_bounds-sort-end-2 : goal.slice_bounds-sort-end-2
-slice_bounds-sort-end-2 c = front _ _ (omega arith)
-
 pub sort-requires : goal.sort-requires
-sort-requires c = readings_sortable _ _ _ _ c.finite_pairs-n.ensures
-
-pub slice_bounds-x-end-2 : goal.slice_bounds-x-end-2
-slice_bounds-x-end-2 c = let f = c.finite_pairs-n in lent_long f.result f.new.x c.sort.new.x (omega arith) c.sort.auto.x
-
-pub slice_bounds-average-end : goal.slice_bounds-average-end
-slice_bounds-average-end c = let f = c.finite_pairs-n in lent_front f.result f.new.x c.sort.new.x (omega arith) c.sort.auto.x
-
-pub slice_bounds-y-end-2 : goal.slice_bounds-y-end-2
-slice_bounds-y-end-2 c = let f = c.finite_pairs-n in lent_long f.result f.new.y c.sort.new.y (omega arith) c.sort.auto.y
-
-pub slice_bounds-average-end-2 : goal.slice_bounds-average-end-2
-slice_bounds-average-end-2 c = let f = c.finite_pairs-n in lent_front f.result f.new.y c.sort.new.y (omega arith) c.sort.auto.y
+sort-requires c =
+    let readings = zip c.args.doses.now c.args.grams.now in
+    rw c.finite_pairs-readings.ensures (readings_sortable readings (omega (arith, length-zip c.args.doses.now c.args.grams.now, c.requires.few)))
 
 pub average-requires : goal.average-requires
 average-requires c =
-    let f = c.finite_pairs-n in
-    let s = c.sort in
-    let nx = lent_front f.result f.new.x s.new.x (omega arith) s.auto.x in
-    let ny = lent_front f.result f.new.y s.new.y (omega arith) s.auto.y in
-    record {
-      y_len = (sym ny ∙ nx, omega arith);
-      u_len = c.requires.u_len;
-    }
+    let readings = zip c.args.doses.now c.args.grams.now in
+    let s = readings_sortable readings (omega (arith, length-zip c.args.doses.now c.args.grams.now, c.requires.few)) in
+    rw (c.sort.auto.pairs, c.finite_pairs-readings.ensures) s.few
 
-pub returns : goal.returns
-unfolding sorted_xy_data
-returns c =
-    let f = c.finite_pairs-n in
-    let s = c.sort in
-    let w = c.average.ensures in
-    let px : f.result ≤ length f.new.x = omega arith in
-    let py : f.result ≤ length f.new.y = omega arith in
-    let h = lent_take f.result f.new.x s.new.x px s.auto.x in
-    let k = lent_take f.result f.new.y s.new.y py s.auto.y in
-    let n = lent_count f.result f.new.x s.new.x px s.auto.x in
-    let m = lent_count f.result f.new.y s.new.y py s.auto.y in
-    let sorted = rw f.ensures.pairs at s.ensures in
-    let done = rw (h, k, sorted) at w in
-    record {
-      front = done;
-      sortable = points_sortable _ _ _ _ done (omega (arith, ap length sorted, zip_length s.new.x s.new.y (m ∙ sym n)));
-    }
+pub invariant_of-result : goal.invariant_of-result
+invariant_of-result c =
+    let readings = zip c.args.doses.now c.args.grams.now in
+    let s = readings_sortable readings (omega (arith, length-zip c.args.doses.now c.args.grams.now, c.requires.few)) in
+    let e : c.sort.new.pairs ≡ sort_of (finite_pairs readings) = c.sort.ensures ∙ ap (λ l. sort_of l) c.finite_pairs-readings.ensures in
+    let few : length (sort_of (finite_pairs readings)) ≤ 512 = omega (arith, ap length e, c.sort.auto.pairs, ap length c.finite_pairs-readings.ensures, s.few) in
+    record { numbered = rw (c.average.ensures, e) (points_numbered readings few) }
