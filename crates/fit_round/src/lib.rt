@@ -61,8 +61,9 @@ pub struct Ended {
 // The rss and the penalised sum of a state; its curves are left in means.
 #[tactic(auto, using(fit_step::specs::laws::Sized::all_fit), unfolding(fit_penalized::specs::Penalized::sum_of))]
 pub fn evaluate_state(q: &NlmmProblem<'_>, state: State, means: &mut [Mean; 512]) -> Evaluated
-    ensures sums { result ≡ evaluated_of (checked q.now) state }
-    ensures kept { Means (checked q.now) state means.new }
+    ensures same { result.state ≡ state }
+    ensures sums { result ≡ evaluated_of (checked q.now) result.state }
+    ensures kept { Means (checked q.now) result.state means.new }
 {
     let rss = evaluate(q, &state, means);
     let sum = rss + penalties(q, &state.effects);
