@@ -2,8 +2,8 @@
 // solved, and each group's effects follow from it.
 #![tactic(auto, using(linalg::specs::laws::Loops::loops), unfolding(crate::specs::Direction::direction_steps))]
 
-ghost use Rattle.std.specs.Prelude.{◌≡◌, ◌+◌, ◌*◌, ◌≤◌, length};
-ghost use Rattle.block_solve.specs.Direction.{damped_fixed, eliminated_of, solved_of, is_direction, left_in, finished_of};
+ghost use Rattle.std.specs.Prelude.{◌≡◌, ◌+◌, ◌*◌, ◌≤◌, ◌<◌, length};
+ghost use Rattle.block_solve.specs.Direction.{damped_fixed, damped_block, row_of, group_of, eliminated_of, solved_of, is_direction, left_in, finished_of};
 
 use crate::normal::BlockNormal;
 use group_blocks::{Group, Shape, Solution, damped, write_direction};
@@ -31,6 +31,43 @@ impl BlockNormal {
         }
     }
 
+    fn damped_block(&self, g: usize, damping: f64) -> [[f64; 2]; 2]
+        requires { g < 32 }
+        ensures { result ≡ damped_block self.now.random g damping }
+    {
+        let at = g * 4;
+        [
+            [damped(self.random[at], damping), self.random[at + 1]],
+            [self.random[at + 2], damped(self.random[at + 3], damping)],
+        ]
+    }
+
+    // Row i of group g's cross block.
+    fn cross_row(&self, g: usize, i: usize) -> (f64, f64)
+        requires { (g < 32) × (i < 4) }
+        ensures { result ≡ row_of self.now.cross g i }
+    {
+        let at = g * 8 + i * 2;
+        (self.cross[at], self.cross[at + 1])
+    }
+
+    // Group g's part, its block damped.
+    fn group(&self, g: usize, damping: f64) -> Group
+        requires { g < 32 }
+        ensures { result ≡ group_of self.now g damping }
+    {
+        Group {
+            block: self.damped_block(g, damping),
+            rhs: (self.random_rhs[g * 2], self.random_rhs[g * 2 + 1]),
+            cross: [
+                self.cross_row(g, 0),
+                self.cross_row(g, 1),
+                self.cross_row(g, 2),
+                self.cross_row(g, 3),
+            ],
+        }
+    }
+
     // None at a pivot that is exactly zero.
     fn eliminate_groups(&self, shape: Shape, damping: f64) -> Option<Eliminated>
         ensures { result ≡ eliminated_of self.now shape.p shape.k shape.groups damping }
@@ -44,7 +81,7 @@ impl BlockNormal {
             solved: [none; 32],
         };
         for g in 0..shape.groups {
-            let group = Group::new(&self.random, &self.cross, &self.random_rhs, g, damping);
+            let group = self.group(g, damping);
             let solution = group.solve(shape)?;
             group.reduce(&mut e.s, shape, &solution);
             e.solved[g] = solution;

@@ -3,9 +3,10 @@
 
 ghost use Rattle.std.specs.Prelude.{◌≡◌, ◌+◌, ◌*◌, ◌≤◌, ◌<◌, length};
 ghost use Rattle.block_solve.specs.Blocks.{products_of, multiples_of, fixed_of, fixed_rhs_of, cross_of, random_of, random_rhs_of};
-ghost use Rattle.block_solve.specs.Normal.{empty_of, add_reading, accumulate_of, times_of, prior_group, add_priors, prior_of};
+ghost use Rattle.block_solve.specs.Normal.{empty_of, accumulate_of, times_of, prior_group, add_priors, prior_of};
 
-// fixed: 4 by 4. For each group, cross: 4 by 2, random: 2 by 2, random_rhs: 2. All row after row.
+// fixed: 4 by 4. For each group, cross: 4 by 2, random: 2 by 2, random_rhs: 2. All row after row, in the flat
+// arrays that document 01 names.
 #[derive(Clone, Copy)]
 pub struct BlockNormal {
     pub fixed: [f64; 16],
@@ -17,7 +18,7 @@ pub struct BlockNormal {
 
 // The products of two lists, added to the rows of a block that begins at from, stride places to a row.
 fn add_products(blocks: &mut [f64], from: usize, stride: usize, rows: &[f64], columns: &[f64])
-    requires { (stride ≤ 4) × (length columns.now ≤ stride) × (from + length rows.now * stride ≤ length blocks.old) }
+    requires { (length columns.now ≤ stride) × (from + length rows.now * stride ≤ length blocks.old) }
     ensures { blocks.new ≡ products_of (λ i. from + i * stride) (length rows.now) rows.now (length columns.now) columns.now blocks.old }
 {
     for (i, a) in rows.iter().enumerate() {

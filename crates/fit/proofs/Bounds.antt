@@ -4,10 +4,11 @@
 use mathlib.Core.Path.{◌≡◌, refl, sym, ◌∙◌, subst}
 use mathlib.Core.Bool.{Bool, true, false, ◌||◌, cond}
 use mathlib.Core.List.{List}
-use Prim.Native.Nat.{ℕ, ◌+◌, ◌*◌, ◌≤◌, ◌<◌}
-use native.Mathlib.Nat.{lt_of_lt_of_le, mul-le-mul}
+use Rattle.std.specs.Prelude.{Option, Some, None}
+use Prim.Native.Nat.{ℕ, ◌+◌, ◌*◌, ◌<◌}
+use native.Mathlib.Nat.{lt_of_lt_of_le}
 use native.Mathlib.Omega.{arith}
-use lib.Dec.{T, eqb}
+use lib.Dec.{T}
 use lib.Ieee.{Float, nan, inf, lt, is_nan, of_bits}
 use lib.ListN.{length, get_or, replicate, length-replicate}
 use Rattle.math.specs.Basic as Basic
@@ -16,15 +17,15 @@ use Rattle.math.specs.laws.Lists.{every_at}
 use Rattle.math.specs.laws.Order.{lt_self, above_num}
 use Rattle.math.specs.laws.Numbers.{finite_number, add_number}
 use Rattle.math.specs.Rationals.{1e-8}
-use Rattle.curves.specs.MeanFn.{n_params_of}
+use Rattle.curves.specs.MeanFn.{scal_index_of}
 use Rattle.block_solve.proofs.Sound.{Sound}
 use Rattle.fit_refusals.specs.Problem.{Problem, p, k}
-use Rattle.fit_refusals.specs.laws.Valid.{Valid}
+use Rattle.fit_refusals.specs.Valid.{Valid}
 use Rattle.fit_step.specs.declared.State.{State}
-use Rattle.fit_step.specs.Lists.{alter}
 use Rattle.fit_step.specs.Constants.{three_fifty, 1e-6}
 use Rattle.fit_step.specs.Project.{clamp_of, clamp_at, project_of, group_clamp, slot_at, slot_of, project_slot, project_groups}
-use Rattle.fit_step.specs.Trial.{has_scal, scal_of, on_scal, adjusted, floored, start_at, started, start_from, start_of, moved_at, moved_of, values_tried, effects_tried, tried_from, tried_of}
+use Rattle.fit_step.specs.Trial.{at_place, on_scal, adjusted, floored, start_at, started, start_of, moved_at, moved_of, values_tried, effects_tried, tried_of}
+use Rattle.fit_step.specs.laws.Sized.{params_most}
 use Rattle.fit.specs.Demand3.{Inside, InBounds}
 use Rattle.fit.proofs.Floats.{below_number, mul_finite, short}
 use Rattle.fit.proofs.Lists.{pick_keeps, iter_length, alter_length, alter_keeps, each_at_lem, each_length}
@@ -47,17 +48,23 @@ Numbers n l = (i : ℕ) → i < n → is_nan (get_or l i nan) ≡ false
 
 -- ---- scal
 
+place_numbers : (n : ℕ) (o : Option ℕ) (f : Float → Float) (l : List Float) → ((v : Float) → is_nan v ≡ false → is_nan (f v) ≡ false) → Numbers n l
+    → Numbers n (at_place o f l)
+place_numbers n None f l h x i b = x i b
+place_numbers n (Some j) f l h x i b = alter_keeps (λ (v : Float). is_nan v ≡ false) l j i f h (x i b)
+
+place_length : (o : Option ℕ) (f : Float → Float) (l : List Float) → length (at_place o f l) ≡ length l
+place_length None f l = refl
+place_length (Some j) f l = alter_length l j f
+
 scal_numbers : (n code : ℕ) (f : Float → Float) (l : List Float) → ((v : Float) → is_nan v ≡ false → is_nan (f v) ≡ false) → Numbers n l
     → Numbers n (on_scal code f l)
 unfolding on_scal
-scal_numbers n code f l h x i b =
-    pick_keeps (λ (r : List Float). is_nan (get_or r i nan) ≡ false) (has_scal code) (alter l (scal_of code) f) l
-    (alter_keeps (λ (v : Float). is_nan v ≡ false) l (scal_of code) i f h (x i b)) (x i b)
+scal_numbers n code f l h x = place_numbers n (scal_index_of code) f l h x
 
 scal_length : (code : ℕ) (f : Float → Float) (l : List Float) → length (on_scal code f l) ≡ length l
 unfolding on_scal
-scal_length code f l =
-    pick_keeps (λ (r : List Float). length r ≡ length l) (has_scal code) (alter l (scal_of code) f) l (alter_length l (scal_of code) f) refl
+scal_length code f l = place_length (scal_index_of code) f l
 
 number_350 : is_nan three_fifty ≡ false
 unfolding is_nan of_bits
@@ -75,40 +82,28 @@ floored_number v h = pick_keeps (λ (x : Float). is_nan x ≡ false) (lt v 1e-6)
 
 -- ---- the projection of the effects keeps their number
 
-slot_length : (effects : List ℕ) (groups : ℕ) (lower upper values : List Float) (r : ℕ) (b : List Float)
-    → length (project_slot effects groups lower upper values r b) ≡ length b
-unfolding slot_of
-slot_length effects groups lower upper values r b =
-    let n = length effects in
-    let lo = get_or lower (get_or effects r 0) nan in
-    let hi = get_or upper (get_or effects r 0) nan in
-    let beta = get_or values (get_or effects r 0) nan in
-    let f = group_clamp lo hi beta in
-    pick_keeps (λ (x : List Float). length x ≡ length b) (is_finite lo || is_finite hi) (slot_of n r groups lo hi beta b) b
-    (iter_length (slot_at n r f) (λ g l. alter_length l (g * n + r) f) groups b) refl
+module _ (q : Problem) where
+  slot_length : (values : List Float) (r : ℕ) (b : List Float) → length (project_slot q values r b) ≡ length b
+  unfolding slot_of
+  slot_length values r b =
+      let lo = get_or q.group_lower (get_or q.effects r 0) nan in
+      let hi = get_or q.group_upper (get_or q.effects r 0) nan in
+      let beta = get_or values (get_or q.effects r 0) nan in
+      let f = group_clamp lo hi beta in
+      pick_keeps (λ (x : List Float). length x ≡ length b) (is_finite lo || is_finite hi) (slot_of q r lo hi beta b) b
+      (iter_length (slot_at q r f) (λ g l. alter_length l (g * k q + r) f) q.groups b) refl
 
-groups_length : (effects : List ℕ) (groups : ℕ) (lower upper values b : List Float) → length (project_groups effects groups lower upper values b) ≡ length b
-unfolding project_groups
-groups_length effects groups lower upper values b =
-    iter_length (project_slot effects groups lower upper values) (slot_length effects groups lower upper values) (length effects) b
-
--- ---- sizes
-
-pub params_le : (code : ℕ) → n_params_of code ≤ 4
-unfolding n_params_of
-params_le code =
-    pick_keeps (λ (n : ℕ). n ≤ 4) (eqb code 3) 2 (cond (eqb code 4) 4 3) (omega arith) (pick_keeps (λ (n : ℕ). n ≤ 4) (eqb code 4) 4 3 (omega arith) (omega arith))
+  groups_length : (values b : List Float) → length (project_groups q values b) ≡ length b
+  unfolding project_groups
+  groups_length values b = iter_length (project_slot q values) (slot_length values) (k q) b
 
 module _ (q : Problem) (valid : Valid q) where
-  pub places_le : q.groups * k q ≤ 64
-  places_le = mul-le-mul valid.sizes.groups_high valid.sizes.effects_high
-
   reach : (i : ℕ) → i < p q → i < 4
-  reach i x = lt_of_lt_of_le x (params_le q.code)
+  reach i x = lt_of_lt_of_le x (params_most q.code)
 
   -- ---- p numbers, projected, lie in the bounds
   project_inside : (l b : List Float) → length l ≡ 4 → length b ≡ 64 → Numbers (p q) l
-      → InBounds q (record { values = project_of (p q) q.lower q.upper l; effects = b })
+      → InBounds q (record { values = project_of q l; effects = b })
   unfolding project_of
   project_inside l b e u h =
       record {
@@ -123,20 +118,20 @@ module _ (q : Problem) (valid : Valid q) where
       }
 
   -- ---- the start
-  started_numbers : Numbers (p q) (started (p q) q.starts)
+  started_numbers : Numbers (p q) (started q)
   unfolding started
   started_numbers i x =
-      subst (λ (v : Float). is_nan v ≡ false) (sym (each_at_lem (start_at q.starts) (replicate 4 Basic.zero) (p q) i x (reach i x)))
+      subst (λ (v : Float). is_nan v ≡ false) (sym (each_at_lem (start_at q) (replicate 4 Basic.zero) (p q) i x (reach i x)))
       (finite_number (get_or q.starts i nan) (valid.start_finite i x))
 
-  started_length : length (started (p q) q.starts) ≡ 4
+  started_length : length (started q) ≡ 4
   unfolding started
-  started_length = each_length (start_at q.starts) (p q) (replicate 4 Basic.zero)
+  started_length = each_length (start_at q) (p q) (replicate 4 Basic.zero)
 
   pub start_inside : InBounds q (start_of q)
-  unfolding start_from
+  unfolding start_of
   start_inside =
-      let l = started (p q) q.starts in
+      let l = started q in
       project_inside (on_scal q.code adjusted l) (replicate 64 Basic.zero) (scal_length q.code adjusted l ∙ started_length) (length-replicate 64 Basic.zero)
       (scal_numbers (p q) q.code adjusted l adjusted_number started_numbers)
 
@@ -159,12 +154,12 @@ module _ (q : Problem) (valid : Valid q) where
     moved_length n at l = each_length (moved_at at d alpha) n l
 
     pub tried_inside : InBounds q (tried_of q s d alpha)
-    unfolding tried_from values_tried effects_tried
+    unfolding tried_of values_tried effects_tried
     tried_inside =
         let l = moved_of (p q) 0 d alpha s.values in
-        let v = values_tried q.code q.lower q.upper d alpha s.values in
+        let v = values_tried q d alpha s.values in
         let e = moved_of (q.groups * k q) (p q) d alpha s.effects in
-        project_inside (on_scal q.code floored l) (project_groups q.effects q.groups q.group_lower q.group_upper v e)
+        project_inside (on_scal q.code floored l) (project_groups q v e)
         (scal_length q.code floored l ∙ moved_length (p q) 0 s.values ∙ b.size)
-        (groups_length q.effects q.groups q.group_lower q.group_upper v e ∙ moved_length (q.groups * k q) (p q) s.effects ∙ b.room)
+        (groups_length q v e ∙ moved_length (q.groups * k q) (p q) s.effects ∙ b.room)
         (scal_numbers (p q) q.code floored l floored_number moved_numbers)

@@ -12,7 +12,8 @@ use lib.Seq.{length-take-le}
 use Rattle.math.specs.laws.Order.{lt_trans}
 use Rattle.fit_refusals.specs.Problem.{Problem, p, k}
 use Rattle.fit_refusals.specs.Faults.{refusal_of}
-use Rattle.fit_refusals.specs.laws.Valid.{Valid, fit_valid}
+use Rattle.fit_refusals.specs.Valid.{Valid}
+use Rattle.fit_refusals.specs.laws.Valid.{fit_valid, few_effects}
 use Rattle.fit_step.specs.declared.State.{State}
 use Rattle.fit_step.specs.Trial.{start_of, first_lambda}
 use Rattle.fit_penalized.specs.Penalized.{sum_of}
@@ -21,7 +22,8 @@ use Rattle.fit.specs.Fit.{rounds, trace_of, whole_of, fit_of}
 use Rattle.fit.specs.Demand3 as Claim
 use Rattle.fit.specs.Demand3.{InBounds, no_state, no_trial, winners_of}
 use Rattle.fit.proofs.Lists.{All, all_at}
-use Rattle.fit.proofs.Bounds.{params_le, places_le, start_inside}
+use Rattle.fit_step.specs.laws.Sized.{params_most}
+use Rattle.fit.proofs.Bounds.{start_inside}
 use Rattle.fit.proofs.Descent.{Tried, TraceLaw, rounds_law}
 
 module _ (q : Problem) where
@@ -66,8 +68,8 @@ module _ (q : Problem) where
 
   sizes : Valid q → (s : State) → InBounds q s → (length (take (p q) s.values) ≡ p q) × (length (take (q.groups * k q) s.effects) ≡ q.groups * k q)
   sizes valid s b = (
-    length-take-le (p q) s.values (subst (λ (n : ℕ). p q ≤ n) (sym b.size) (params_le q.code)),
-    length-take-le (q.groups * k q) s.effects (subst (λ (n : ℕ). q.groups * k q ≤ n) (sym b.room) (places_le q valid)),
+    length-take-le (p q) s.values (subst (λ (n : ℕ). p q ≤ n) (sym b.size) (params_most q.code)),
+    length-take-le (q.groups * k q) s.effects (subst (λ (n : ℕ). q.groups * k q ≤ n) (sym b.room) (few_effects q valid.sizes)),
   )
 
 last_at : (s : State) (l : List State) → get_or (s ∷ l) (length l) no_state ≡ last_of s l

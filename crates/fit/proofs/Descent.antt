@@ -4,7 +4,7 @@
 use mathlib.Core.Path.{◌≡◌, refl, ap, ◌∙◌}
 use mathlib.Core.Bool.{Bool, true, false, ◌&&◌, cond}
 use mathlib.Core.List.{List, ◌∷◌}
-use mathlib.Core.Option.{Option, none, some}
+use Rattle.std.specs.Prelude.{Option, Some, None}
 use Prim.Native.Nat.{ℕ, zero, suc, ◌+◌, ◌*◌, ◌≤◌}
 use native.Mathlib.Omega.{arith}
 use lib.Dec.{T}
@@ -17,7 +17,7 @@ use Rattle.math.specs.laws.Loops.{pick_true, pick_false}
 use Rattle.block_solve.specs.declared.normal.BlockNormal.{BlockNormal}
 use Rattle.block_solve.proofs.Sound.{Sound, direction_sound}
 use Rattle.fit_refusals.specs.Problem.{Problem, p, k}
-use Rattle.fit_refusals.specs.laws.Valid.{Valid}
+use Rattle.fit_refusals.specs.Valid.{Valid}
 use Rattle.fit_step.specs.declared.State.{State}
 use Rattle.fit_step.specs.Trial.{tried_of, largest_of, step_of, lowered, raised}
 use Rattle.fit_penalized.specs.Penalized.{sum_of}
@@ -27,7 +27,8 @@ use Rattle.fit.specs.Fit.{won, begun, rounds}
 use Rattle.fit.specs.Demand3.{InBounds, winners_of}
 use Rattle.fit.proofs.Floats.{short}
 use Rattle.fit.proofs.Lists.{pick_keeps, All}
-use Rattle.fit.proofs.Bounds.{params_le, tried_inside}
+use Rattle.fit_step.specs.laws.Sized.{params_most}
+use Rattle.fit.proofs.Bounds.{tried_inside}
 
 -- the lengths 1, 1/2, .. are at most 1
 abbrev short_from : ℕ → Float → Bool
@@ -129,12 +130,12 @@ module _ (q : Problem) where
 
         along_law : (m : ℕ) (lambda : Float) → ((l : Float) → TraceLaw n (20 * m) old (attempts q s blocks old win m l)) → (o : Option (List Float))
             → direction q blocks lambda ≡ o → TraceLaw n (20 * suc m) old (along q s blocks old win (λ l. attempts q s blocks old win m l) lambda o)
-        along_law m lambda rest none e = ended_law n old (20 * suc m) false
-        along_law m lambda rest (some d) e =
+        along_law m lambda rest None e = ended_law n old (20 * suc m) false
+        along_law m lambda rest (Some d) e =
             let next : Float → Trace = λ l. attempts q s blocks old win m l in
             let t = lengths q s blocks old win 20 next d lambda one in
             let size = valid.sizes in
-            let sound = direction_sound blocks (p q) (k q) q.groups lambda d (params_le q.code) size.effects_low size.effects_high e in
+            let sound = direction_sound blocks (p q) (k q) q.groups lambda d (params_most q.code) size.effects_low size.effects_high e in
             pick_keeps (TraceLaw n (20 * suc m) old) (lt (largest_of d) 1e-10) (ended true) t (ended_law n old (20 * suc m) true)
             (more n old (20 + 20 * m) (20 * suc m) t (omega arith) (lengths_law (20 * m) next rest d sound lambda 20 one all_short))
 

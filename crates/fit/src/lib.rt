@@ -3,13 +3,15 @@
 
 pub mod run;
 
-ghost use Rattle.std.specs.Prelude.{◌≡◌, ◌≤◌, length, take};
-ghost use Rattle.fit_refusals.specs.Problem.{problem_of};
-ghost use Rattle.fit.specs.Answer.{told, call_of};
+ghost use Rattle.std.specs.Prelude.{◌≡◌, length, Ok};
+ghost use Rattle.fit_refusals.specs.Given.{given, checked};
+ghost use Rattle.fit_refusals.specs.Valid.{ValidFit};
+ghost use Rattle.fit.specs.Fit.{answer_of, fit_of};
+ghost use Rattle.fit.specs.Answer.{told, done_with, call_of};
 
 use crate::run::inner_gauss_newton;
-use fit_refusals::fit_fault;
-use fit_step::State;
+use fit_refusals::{NlmmProblem, Problem};
+use refusal::Refusal;
 
 // What a fit answers besides the values and effects that it writes.
 #[derive(Clone, Copy)]
@@ -20,103 +22,40 @@ pub struct Fitted {
     pub trials: usize,
 }
 
-#[derive(Clone, Copy)]
-pub enum Answer {
-    Refused(u64),
-    Done(Fitted),
-}
-
-// The list becomes the first elements of another.
-fn write_first(out: &mut [f64], from: &[f64])
-    requires { length out.old ≤ length from.now }
-    ensures { out.new ≡ take (length out.old) from.now }
-{
-    let mut i = 0usize;
-    while i < out.len() {
-        out[i] = from[i];
-        i += 1;
-    }
-}
-
-// As many values and effects of a state as the lists have places.
-fn write_state(s: State, values: &mut [f64], effects: &mut [f64])
-    requires { (length values.old ≤ 4) × (length effects.old ≤ 64) }
-    ensures { (values.new ≡ take (length values.old) s.values)
-        × (effects.new ≡ take (length effects.old) s.effects) }
-{
-    let v = s.values;
-    let b = s.effects;
-    write_first(values, &v);
-    write_first(effects, &b);
-}
-
-// Refused by document 01's numbers 1 to 10, with both lists as they were; else the last state's p
-// values and groups times k effects are written, group after group.
-pub fn fit(
-    code: u64,
-    doses: &[f64],
-    grams: &[f64],
-    group: &[usize],
-    groups: usize,
-    effects: &[usize],
-    starts: &[f64],
-    lower: &[f64],
-    upper: &[f64],
-    group_lower: &[f64],
-    group_upper: &[f64],
-    theta: &[f64],
+// The last state's p values and groups times k effects are written, group after group.
+#[tactic(auto, using(fit_step::specs::laws::Sized::params_most, fit_refusals::specs::laws::Valid::few_effects))]
+pub fn fit_checked(
+    q: &NlmmProblem<'_>,
     max_rounds: u64,
     values: &mut [f64],
     effects_out: &mut [f64],
-) -> Answer
-    ensures { told result values.new effects_out.new
-        ≡ call_of
-        (problem_of code doses.now grams.now group.now groups effects.now
-        starts.now lower.now upper.now
-        group_lower.now group_upper.now theta.now)
-        max_rounds values.old effects_out.old }
+) -> Fitted
+    requires { ValidFit (checked q.now) (length values.old) (length effects_out.old) max_rounds }
+    ensures { told (Ok result) values.new effects_out.new ≡ done_with (answer_of (checked q.now) (fit_of (checked q.now) max_rounds)) }
 {
-    let fault = fit_fault(
-        code,
-        doses,
-        grams,
-        group,
-        groups,
-        effects,
-        starts,
-        lower,
-        upper,
-        group_lower,
-        group_upper,
-        theta,
-        max_rounds,
-        values.len(),
-        effects_out.len(),
-    );
-    if fault != 0 {
-        return Answer::Refused(fault);
+    let last = inner_gauss_newton(q, max_rounds as usize);
+    let p = values.len();
+    values.copy_from_slice(&last.state.values[..p]);
+    let n = effects_out.len();
+    effects_out.copy_from_slice(&last.state.effects[..n]);
+    Fitted {
+        rss: last.rss,
+        converged: last.converged,
+        rounds: last.rounds,
+        trials: last.trials,
     }
-    let r = inner_gauss_newton(
-        code,
-        effects,
-        groups,
-        doses,
-        grams,
-        group,
-        starts,
-        lower,
-        upper,
-        group_lower,
-        group_upper,
-        theta,
-        max_rounds as usize,
-    );
-    let s = r.state;
-    write_state(s, values, effects_out);
-    Answer::Done(Fitted {
-        rss: r.rss,
-        converged: r.converged,
-        rounds: r.rounds,
-        trials: r.trials,
-    })
+}
+
+// Refused by document 01's numbers 1 to 10, with both lists as they were; else as `fit_checked`.
+#[tactic(auto, using(crate::proofs::Call::call_refused))]
+pub fn fit(
+    problem: &Problem<'_>,
+    max_rounds: u64,
+    values: &mut [f64],
+    effects_out: &mut [f64],
+) -> Result<Fitted, Refusal>
+    ensures { told result values.new effects_out.new ≡ call_of (given problem.now) max_rounds values.old effects_out.old }
+{
+    let q = problem.for_fit(max_rounds, values.len(), effects_out.len())?;
+    Ok(fit_checked(&q, max_rounds, values, effects_out))
 }

@@ -5,13 +5,12 @@ use Rattle.std.specs.Float.Ieee.{eq}
 use Rattle.math.specs.Basic.{sub, zero}
 use Rattle.math.specs.Loops.{iter}
 use Rattle.curves.specs.declared.Mean.{Mean}
-use Rattle.curves.specs.MeanFn.{n_params_of}
 use Rattle.re_cov.specs.ReCov.{inverse_of}
 use Rattle.block_solve.specs.declared.normal.BlockNormal.{BlockNormal}
 use Rattle.block_solve.specs.Normal.{empty_of, accumulate_of, prior_of}
-use Rattle.fit_refusals.specs.Problem.{Problem, k}
+use Rattle.fit_refusals.specs.Problem.{Problem, p, k}
 use Rattle.fit_step.specs.declared.State.{State}
-use Rattle.fit_penalized.specs.Penalized.{mean_at, mean_in}
+use Rattle.fit_penalized.specs.Penalized.{mean_at}
 
 -- the gradient by value j
 abbrev pub gradient_at : Mean → ℕ → Float
@@ -29,31 +28,23 @@ unfoldable pub random_gradients : List ℕ → Mean → List Float
 random_gradients effects y =
     gradient_at y (get_or effects 0 0) ∷ cond (eqb (length effects) 1) zero (gradient_at y (get_or effects 1 0)) ∷ []
 
-module _ (code : ℕ) (effects : List ℕ) (doses grams : List Float) (group : List ℕ) (lower upper : List Float) where
-  -- a reading whose curve is y
-  abbrev pub reading_of : ℕ → Mean → BlockNormal → BlockNormal
+module _ (q : Problem) where
+  -- reading i, whose curve is y
+  unfoldable pub reading_of : ℕ → Mean → BlockNormal → BlockNormal
   reading_of i y n =
-      accumulate_of (get_or group i 0) (n_params_of code) (fixed_gradients lower upper y) (length effects) (random_gradients effects y)
-      (sub (get_or grams i nan) y.mu)
+      accumulate_of (get_or q.group i 0) (p q) (fixed_gradients q.lower q.upper y) (k q) (random_gradients q.effects y)
+      (sub (get_or q.grams i nan) y.mu)
       n
 
   abbrev pub reading_at : State → ℕ → BlockNormal → BlockNormal
-  reading_at s i n = reading_of i (mean_at code effects doses group s.values s.effects i) n
+  reading_at s i n = reading_of i (mean_at q s i) n
 
   unfoldable pub readings_of : State → BlockNormal
-  readings_of s = iter (reading_at s) (length doses) empty_of
-
-  -- the readings with their curves out of a list
-  abbrev pub reading_in : List Float → ℕ → BlockNormal → BlockNormal
-  reading_in means i n = reading_of i (mean_in means i) n
-
-  unfoldable pub readings_in : List Float → BlockNormal
-  readings_in means = iter (reading_in means) (length doses) empty_of
+  readings_of s = iter (reading_at s) (length q.doses) empty_of
 
   -- the readings, then the prior of every group, one without readings too, with the covariance's inverse m
-  unfoldable pub blocks_of : ℕ → List (List Float) → State → BlockNormal
-  blocks_of groups m s = prior_of (length effects) groups m (take (groups * length effects) s.effects) (readings_of s)
+  unfoldable pub blocks_of : List (List Float) → State → BlockNormal
+  blocks_of m s = prior_of (k q) q.groups m (take (q.groups * k q) s.effects) (readings_of s)
 
-abbrev pub normal_of : Problem → State → BlockNormal
-normal_of q s =
-    blocks_of q.code q.effects q.doses q.grams q.group q.lower q.upper q.groups (inverse_of (k q) q.theta) s
+  abbrev pub normal_of : State → BlockNormal
+  normal_of s = blocks_of (inverse_of (k q) q.theta) s

@@ -4,83 +4,56 @@
 
 pub mod normal;
 
-ghost use Rattle.std.specs.Prelude.{◌≡◌, ◌≤◌, ◌<◌, ◌+◌, ◌*◌, length};
-ghost use Rattle.fit_step.specs.Sized.{Effects, Readings};
-ghost use Rattle.fit_penalized.specs.Penalized.{squares_of, penalty_sum, mean_in, stored_mean, Means};
+ghost use Rattle.std.specs.Prelude.{◌≡◌, ◌≤◌, ◌<◌, ◌*◌, length};
+ghost use Rattle.fit_refusals.specs.Problem.{k};
+ghost use Rattle.fit_refusals.specs.Given.{checked};
+ghost use Rattle.fit_penalized.specs.Penalized.{mean_at, rss_of, penalty_sum, Means};
 
 use curves::Mean;
-use curves::mean_fn::eval_mean_with_re;
+use fit_refusals::NlmmProblem;
 use fit_step::State;
 use re_cov::re_penalty;
 
-// The curve of reading i, in its five places.
-fn store_mean(means: &mut [f64], i: usize, y: Mean)
-    requires { i * 5 + 5 ≤ length means.old }
-    ensures { means.new ≡ stored_mean i y means.old }
+// The curve of reading i, with its group's effects.
+#[tactic(auto, using(fit_step::specs::laws::Sized::slot_fits))]
+fn mean_at(q: &NlmmProblem<'_>, s: &State, i: usize) -> Mean
+    requires { i < length q.now.doses.now }
+    ensures { result ≡ mean_at (checked q.now) s.now i }
 {
-    let at = i * 5;
-    means[at] = y.mu;
-    means[at + 1] = y.d0;
-    means[at + 2] = y.d1;
-    means[at + 3] = y.d2;
-    means[at + 4] = y.d3;
-}
-
-pub fn load_mean(means: &[f64], i: usize) -> Mean
-    requires { i * 5 + 5 ≤ length means.now }
-    ensures { result ≡ mean_in means.now i }
-{
-    let at = i * 5;
-    Mean {
-        mu: means[at],
-        d0: means[at + 1],
-        d1: means[at + 2],
-        d2: means[at + 3],
-        d3: means[at + 4],
-    }
+    let k = q.effects.len();
+    let from = q.group[i] * k;
+    let b = &s.effects[from..from + k];
+    q.curve
+        .eval_mean_with_re(q.doses[i], s.values, q.effects, b)
 }
 
 // The rss. Each reading's curve is worked out once and kept in means, for the normal blocks.
-pub fn evaluate(
-    code: u64,
-    s: State,
-    effects: &[usize],
-    doses: &[f64],
-    grams: &[f64],
-    group: &[usize],
-    means: &mut [f64],
-) -> f64
-    requires { Effects effects.now × (Readings doses.now grams.now group.now × (length means.old ≡ 2560)) }
-    ensures rss { result ≡ squares_of code effects.now doses.now group.now s.values s.effects grams.now }
-    ensures kept { Means code effects.now doses.now group.now s means.new }
+#[tactic(auto, using(math::specs::laws::Loops::turns), unfolding(crate::specs::Penalized::rss_of))]
+pub fn evaluate(q: &NlmmProblem<'_>, s: &State, means: &mut [Mean; 512]) -> f64
+    ensures rss { result ≡ rss_of (checked q.now) s.now }
+    ensures kept { Means (checked q.now) s.now means.new }
 {
-    let v = s.values;
-    let b = s.effects;
-    let k = effects.len();
-    let mut t = 0.0;
-    let mut i = 0usize;
-    while i < doses.len() {
-        let from = group[i] * k;
-        let y = eval_mean_with_re(code, doses[i], v, effects, &b[from..from + k]);
-        store_mean(means, i, y);
-        let r = grams[i] - y.mu;
-        t = t + r * r;
-        i += 1;
+    let mut rss = 0.0;
+    for i in 0..q.doses.len() {
+        let y = mean_at(q, s, i);
+        means[i] = y;
+        let r = q.grams[i] - y.mu;
+        rss += r * r;
     }
-    t
+    rss
 }
 
 // Each group's, one without readings too.
-pub fn penalties(k: usize, theta: &[f64], groups: usize, b: &[f64]) -> f64
-    requires { (k ≤ 2) × ((groups ≤ 32) × (groups * k ≤ length b.now)) }
-    ensures { result ≡ penalty_sum k groups theta.now b.now }
+#[tactic(auto, using(math::specs::laws::Loops::turns, math::specs::laws::Parts::group_fits, fit_step::specs::laws::Sized::all_fit), unfolding(crate::specs::Penalized::penalty_sum))]
+pub fn penalties(q: &NlmmProblem<'_>, b: &[f64]) -> f64
+    requires { q.now.groups * k (checked q.now) ≤ length b.now }
+    ensures { result ≡ penalty_sum (checked q.now) b.now }
 {
+    let k = q.effects.len();
     let mut t = 0.0;
-    let mut g = 0usize;
-    while g < groups {
+    for g in 0..q.groups {
         let from = g * k;
-        t = t + re_penalty(k, theta, &b[from..from + k]);
-        g += 1;
+        t += re_penalty(k, q.theta, &b[from..from + k]);
     }
     t
 }

@@ -1,111 +1,100 @@
 // The normal blocks of a state.
-ghost use Rattle.std.specs.Prelude.{◌≡◌, cond, ◌≤◌, ◌<◌, ◌*◌, length, get_or};
+ghost use Rattle.std.specs.Prelude.{◌≡◌, ◌<◌, cond, get_or, length};
 ghost use Rattle.std.specs.Float.Ieee.{eq};
 ghost use Rattle.std.specs.Float.{nan};
 ghost use Rattle.math.specs.Basic.{zero};
-ghost use Rattle.fit_step.specs.Sized.{Effects, Readings};
+ghost use Rattle.fit_refusals.specs.Given.{checked};
 ghost use Rattle.fit_penalized.specs.Penalized.{Means};
-ghost use Rattle.fit_penalized.specs.Normal.{fixed_gradients, random_gradients, readings_in, blocks_of};
+ghost use Rattle.fit_penalized.specs.Normal.{fixed_gradients, random_gradients, reading_of, readings_of, blocks_of};
 
-use crate::load_mean;
 use block_solve::normal::{
     BlockNormal, add_cross, add_fixed, add_fixed_rhs, add_random, add_random_rhs,
 };
 use curves::Mean;
-use curves::mean_fn::n_params;
+use fit_refusals::NlmmProblem;
 use fit_step::State;
 
-// The gradient by value j, or zero where its bounds are equal.
-fn free(lower: &[f64], upper: &[f64], j: usize, gradient: f64) -> f64
-    ensures { result ≡ cond (eq (get_or lower.now j nan) (get_or upper.now j nan)) zero gradient }
+// The gradient by value j, or zero where its bounds are equal. Past the curve's last value there are none.
+fn free(q: &NlmmProblem<'_>, j: usize, gradient: f64) -> f64
+    ensures { result ≡ cond (eq (get_or q.now.lower.now j nan) (get_or q.now.upper.now j nan)) zero gradient }
 {
-    if math::at(lower, j) == math::at(upper, j) {
-        return 0.0;
+    if math::at(q.lower, j) == math::at(q.upper, j) {
+        0.0
+    } else {
+        gradient
     }
-    gradient
 }
 
-fn fixed_gradients(lower: &[f64], upper: &[f64], y: Mean) -> [f64; 4]
-    ensures { result ≡ fixed_gradients lower.now upper.now y }
+#[tactic(auto, unfolding(crate::specs::Normal::fixed_gradients))]
+fn fixed_gradients(q: &NlmmProblem<'_>, y: Mean) -> [f64; 4]
+    ensures { result ≡ fixed_gradients q.now.lower.now q.now.upper.now y }
 {
     [
-        free(lower, upper, 0, y.d0),
-        free(lower, upper, 1, y.d1),
-        free(lower, upper, 2, y.d2),
-        free(lower, upper, 3, y.d3),
+        free(q, 0, y.d0),
+        free(q, 1, y.d1),
+        free(q, 2, y.d2),
+        free(q, 3, y.d3),
     ]
 }
 
 // The true gradients by the effects, whatever the bounds; for one effect the second is +0.
-pub fn random_gradients(effects: &[usize], y: Mean) -> [f64; 2]
-    requires { Effects effects.now }
-    ensures { result ≡ random_gradients effects.now y }
+#[tactic(auto, using(fit_step::specs::laws::Sized::params_most), unfolding(crate::specs::Normal::random_gradients))]
+pub fn random_gradients(q: &NlmmProblem<'_>, y: Mean) -> [f64; 2]
+    ensures { result ≡ random_gradients q.now.effects.now y }
 {
     let d = [y.d0, y.d1, y.d2, y.d3];
-    let j = effects[0];
-    if effects.len() == 1 {
-        return [d[j], 0.0];
+    let first = d[q.effects[0]];
+    if q.effects.len() == 1 {
+        [first, 0.0]
+    } else {
+        [first, d[q.effects[1]]]
     }
-    let l = effects[1];
-    [d[j], d[l]]
 }
 
-// The readings in order, from their curves in means: each is accumulated block by block, in place.
-fn readings(
-    code: u64,
-    effects: &[usize],
-    doses: &[f64],
-    grams: &[f64],
-    group: &[usize],
-    lower: &[f64],
-    upper: &[f64],
-    means: &[f64],
-) -> BlockNormal
-    requires { Effects effects.now × (Readings doses.now grams.now group.now × (length means.now ≡ 2560)) }
-    ensures { result ≡ readings_in code effects.now doses.now grams.now group.now lower.now upper.now means.now }
+// Reading i, whose curve is y, accumulated block by block, in place.
+#[tactic(auto, using(fit_step::specs::laws::Sized::params_most, block_solve::specs::laws::Blocks::adds_to_each, block_solve::specs::laws::Normal::accumulate_fits), unfolding(crate::specs::Normal::reading_of))]
+fn add_reading(q: &NlmmProblem<'_>, i: usize, y: Mean, n: &mut BlockNormal)
+    requires { i < length q.now.doses.now }
+    ensures { n.new ≡ reading_of (checked q.now) i y n.old }
 {
-    let p = n_params(code);
-    let k = effects.len();
+    let p = q.curve.n_params();
+    let k = q.effects.len();
+    let f = fixed_gradients(q, y);
+    let r = random_gradients(q, y);
+    let g = q.group[i];
+    let e = q.grams[i] - y.mu;
+    add_fixed(&mut n.fixed, p, f);
+    add_fixed_rhs(&mut n.fixed_rhs, p, f, e);
+    add_cross(&mut n.cross, g, p, f, k, r);
+    add_random(&mut n.random, g, k, r);
+    add_random_rhs(&mut n.random_rhs, g, k, r, e);
+}
+
+// The readings in order, from their curves in means.
+#[tactic(auto, using(math::specs::laws::Loops::turns), unfolding(crate::specs::Normal::readings_of))]
+fn readings(q: &NlmmProblem<'_>, s: &State, means: &[Mean; 512]) -> BlockNormal
+    requires { Means (checked q.now) s.now means.now }
+    ensures { result ≡ readings_of (checked q.now) s.now }
+{
     let mut n = BlockNormal::new();
-    let mut i = 0usize;
-    while i < doses.len() {
-        let y = load_mean(means, i);
-        let f = fixed_gradients(lower, upper, y);
-        let r = random_gradients(effects, y);
-        let g = group[i];
-        let e = grams[i] - y.mu;
-        add_fixed(&mut n.fixed, p, f);
-        add_fixed_rhs(&mut n.fixed_rhs, p, f, e);
-        add_cross(&mut n.cross, g, p, f, k, r);
-        add_random(&mut n.random, g, k, r);
-        add_random_rhs(&mut n.random_rhs, g, k, r, e);
-        i += 1;
+    for i in 0..q.doses.len() {
+        add_reading(q, i, means[i], &mut n);
     }
     n
 }
 
 // The readings, then the prior of every group, with the covariance's inverse.
+#[tactic(auto, using(fit_step::specs::laws::Sized::all_fit), unfolding(crate::specs::Normal::blocks_of))]
 pub fn normal(
-    code: u64,
-    s: State,
-    effects: &[usize],
-    groups: usize,
-    doses: &[f64],
-    grams: &[f64],
-    group: &[usize],
-    lower: &[f64],
-    upper: &[f64],
-    means: &[f64],
+    q: &NlmmProblem<'_>,
+    s: &State,
+    means: &[Mean; 512],
     inverse: [[f64; 2]; 2],
 ) -> BlockNormal
-    requires { Effects effects.now
-        × (Readings doses.now grams.now group.now
-        × (Means code effects.now doses.now group.now s means.now × (groups ≤ 32))) }
-    ensures { result ≡ blocks_of code effects.now doses.now grams.now group.now lower.now upper.now groups inverse s }
+    requires { Means (checked q.now) s.now means.now }
+    ensures { result ≡ blocks_of (checked q.now) inverse s.now }
 {
-    let n = readings(code, effects, doses, grams, group, lower, upper, means);
-    let k = effects.len();
-    let b = s.effects;
-    let size = groups * k;
-    n.add_prior(k, groups, inverse, &b[..size])
+    let k = q.effects.len();
+    let size = q.groups * k;
+    readings(q, s, means).add_prior(k, q.groups, inverse, &s.effects[..size])
 }

@@ -1,6 +1,6 @@
--- Codes, numbers, and the first of two lists of faults. Assumes nothing.
-use Prim.Native.Nat.{ℕ, suc, ◌+◌, ◌≤◌, ◌<◌}
-use mathlib.Core.Path.{◌≡◌, refl}
+-- The first of two lists of faults. Assumes nothing.
+use Prim.Native.Nat.{ℕ, suc, ◌+◌, ◌<◌}
+use mathlib.Core.Path.{◌≡◌}
 use mathlib.Core.Bool.{Bool, true, false, cond, ◌||◌}
 use mathlib.Core.List.{List, [], ◌∷◌, ◌++◌}
 use native.Mathlib.Nat.{add-zero, zero-lt-suc}
@@ -8,36 +8,9 @@ use native.Mathlib.Omega.{arith}
 use borrow.Author.Tests.{ne_eqb}
 use lib.Dec.{eqb}
 use lib.ListN.{length}
-use Rattle.refusal.specs.declared.Refusal.{Refusal}
-use Rattle.refusal.specs.declared.Refusal.TheVariants.{Code, Readings, Groups, Group, Effects, Lengths, Numbers, Bounds, Outputs, Limits}
-use Rattle.refusal.specs.Refusal.{number_of}
-use Rattle.curves.specs.declared.mean_fn.Curve.{Curve}
-use Rattle.curves.specs.declared.mean_fn.Curve.TheVariants.{Sslogis, Ssasymp, Ssmicmen, Ssfpl}
-use Rattle.curves.specs.MeanFn.{code_of}
-use Rattle.fit_faults.specs.Tests.{bad_code, bad_outputs, too_many}
+use Rattle.fit_faults.specs.Tests.{bad_outputs, too_many}
 use Rattle.fit_refusals.specs.Problem.{Problem, p, k}
 use Rattle.fit_refusals.specs.Faults.{first_from, first_eight, first_of_eight, refusal_of, search_refusal_of}
-
--- every curve has a code
-pub known : (c : Curve) → bad_code (code_of c) ≡ false
-unfolding bad_code
-known Sslogis = refl
-known Ssasymp = refl
-known Ssmicmen = refl
-known Ssfpl = refl
-
--- every refusal has a number
-pub numbered : (e : Refusal) → 1 ≤ number_of e
-numbered Code = omega arith
-numbered Readings = omega arith
-numbered Groups = omega arith
-numbered Group = omega arith
-numbered Effects = omega arith
-numbered Lengths = omega arith
-numbered Numbers = omega arith
-numbered Bounds = omega arith
-numbered Outputs = omega arith
-numbered Limits = omega arith
 
 -- the first fault of a list, or of the one after it
 abbrev then_later : ℕ → ℕ → ℕ

@@ -7,14 +7,15 @@ ghost use Rattle.fit_refusals.specs.Valid.{ValidFit, ValidSearch};
 use crate::{NlmmProblem, Problem};
 use curves::Curve;
 use fit_faults::{
-    all_below, all_finite, bad_effects, bad_groups, bad_lengths, bad_numbers, bad_order,
-    bad_outputs, bad_readings, bad_theta, too_many,
+    all_below, bad_effects, bad_groups, bad_lengths, bad_numbers, bad_order, bad_outputs,
+    bad_readings, bad_theta, too_many,
 };
+use math::all_finite;
 use refusal::Refusal;
 
 impl<'a> Problem<'a> {
     // 1 to 8; those of theta where it is read.
-    #[tactic(auto, using(crate::proofs::Laws::known), unfolding(crate::specs::Faults::first_from, crate::specs::Faults::first_of_eight, fit_faults::specs::Tests::bad_code))]
+    #[tactic(auto, using(crate::specs::laws::Codes::known), unfolding(crate::specs::Faults::first_from, crate::specs::Faults::first_of_eight, fit_faults::specs::Tests::bad_code))]
     fn first_eight(&self, reads_theta: bool) -> Result<NlmmProblem<'a>, Refusal>
         ensures number { number_in result ≡ first_of_eight (given self.now) reads_theta }
         ensures same { IfOk result (λ q. checked q ≡ given self.now) }
@@ -79,7 +80,7 @@ impl<'a> Problem<'a> {
         })
     }
 
-    #[tactic(auto, using(crate::proofs::Laws::numbered, crate::proofs::Laws::fit_split))]
+    #[tactic(auto, using(crate::specs::laws::Codes::numbered, crate::proofs::Laws::fit_split))]
     // The problem of a fit or a criterion, with output lists of n_values and n_effects_out places.
     pub fn for_fit(
         &self,
@@ -102,7 +103,7 @@ impl<'a> Problem<'a> {
         Ok(problem)
     }
 
-    #[tactic(auto, using(crate::proofs::Laws::numbered, crate::proofs::Laws::search_split))]
+    #[tactic(auto, using(crate::specs::laws::Codes::numbered, crate::proofs::Laws::search_split))]
     // The problem of a search, which finds a theta for one effect, and writes no list.
     pub fn for_search(
         &self,

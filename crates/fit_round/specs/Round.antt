@@ -1,7 +1,6 @@
 -- One round of a fit (`inner_gauss_newton_status`), as a trace: what happens from a state on, with the attempts and lengths that are left. The rounds of a whole fit,
 -- specs/Fit.antt of crate fit, are made of it. An outer loop goes on through `win` and `next`, so that the first winner leaves both the lengths and the attempts.
-use Rattle.std.specs.Prelude.{ℕ, zero, suc, Bool, true, false, cond, List, [], ◌∷◌, Float}
-use Rattle.std.proofs.Math.Option.{Option, none, some}
+use Rattle.std.specs.Prelude.{ℕ, zero, suc, Bool, true, false, cond, Option, Some, None, List, [], ◌∷◌, Float}
 use Rattle.std.specs.Float.Ieee.{lt}
 use Rattle.math.specs.Basic.{mul, bits, half, one}
 use Rattle.block_solve.specs.declared.normal.BlockNormal.{BlockNormal}
@@ -58,8 +57,8 @@ module _ (q : Problem) where
 
     -- an attempt: none where there is no direction, converged where the proposal is below 1e-10, else 20 lengths from 1
     abbrev pub along : (Float → Trace) → Float → Option (List Float) → Trace
-    along next lambda none = ended false
-    along next lambda (some d) =
+    along next lambda None = ended false
+    along next lambda (Some d) =
         let t = lengths 20 next d lambda one in
         cond (lt (largest_of d) 1e-10) (ended true) t
 

@@ -3,15 +3,17 @@
 // the normal blocks of the round that starts from it are built from there.
 #![tactic(auto)]
 
-ghost use Rattle.std.specs.Prelude.{◌≡◌, ◌≤◌, length};
-ghost use Rattle.fit_step.specs.Sized.{Effects, Readings};
-ghost use Rattle.fit_step.specs.Trial.{tried_from};
+ghost use Rattle.std.specs.Prelude.{◌≡◌, ◌≤◌, ◌+◌, ◌*◌, length};
+ghost use Rattle.fit_refusals.specs.Problem.{p, k};
+ghost use Rattle.fit_refusals.specs.Given.{checked};
+ghost use Rattle.fit_step.specs.Trial.{tried_of};
 ghost use Rattle.fit_penalized.specs.Penalized.{Means};
-ghost use Rattle.fit_round.specs.Rounds.{evaluated_from, lost_with, Sizes, RoundAnswer};
+ghost use Rattle.fit_round.specs.Rounds.{evaluated_of, ComesTo, Kept};
 
 use block_solve::normal::BlockNormal;
-use curves::mean_fn::n_params;
+use curves::Mean;
 use fit_penalized::{evaluate, penalties};
+use fit_refusals::NlmmProblem;
 use fit_step::State;
 use fit_step::trial::{largest, lower_lambda, raise_lambda, step_size, try_step};
 
@@ -23,14 +25,26 @@ pub struct Evaluated {
     pub sum: f64,
 }
 
-// What a round comes to. Where a trial won: its state, the lambda of the next round and the size of the step.
+// A trial that won, the lambda of the next round and the size of the step.
 #[derive(Clone, Copy)]
-pub struct Outcome {
+pub struct Winner {
     pub at: Evaluated,
     pub lambda: f64,
     pub step: f64,
-    pub won: bool,
-    pub converged: bool,
+}
+
+// How a round ends: with a winner; with a proposal below 1e-10; or without a direction, or with no attempt left.
+#[derive(Clone, Copy)]
+pub enum End {
+    Won(Winner),
+    Converged,
+    Lost,
+}
+
+// What a round comes to.
+#[derive(Clone, Copy)]
+pub struct Outcome {
+    pub end: End,
     pub trials: usize,
 }
 
@@ -45,166 +59,80 @@ pub struct Ended {
 }
 
 // The rss and the penalised sum of a state; its curves are left in means.
-pub fn evaluate_state(
-    code: u64,
-    effects: &[usize],
-    groups: usize,
-    doses: &[f64],
-    grams: &[f64],
-    group: &[usize],
-    theta: &[f64],
-    s: State,
-    means: &mut [f64],
-) -> Evaluated
-    requires { Effects effects.now
-        × (Readings doses.now grams.now group.now × ((groups ≤ 32) × (length means.old ≡ 2560))) }
-    ensures { (result ≡ evaluated_from code effects.now groups doses.now grams.now group.now
-        theta.now s)
-        × Means code effects.now doses.now group.now s means.new }
+#[tactic(auto, using(fit_step::specs::laws::Sized::all_fit), unfolding(fit_penalized::specs::Penalized::sum_of))]
+pub fn evaluate_state(q: &NlmmProblem<'_>, state: State, means: &mut [Mean; 512]) -> Evaluated
+    ensures same { result.state ≡ state }
+    ensures sums { result ≡ evaluated_of (checked q.now) result.state }
+    ensures kept { Means (checked q.now) result.state means.new }
 {
-    let rss = evaluate(code, s, effects, doses, grams, group, means);
-    let b = s.effects;
-    let penalty = penalties(effects.len(), theta, groups, &b);
-    Evaluated {
-        state: s,
-        rss: rss,
-        sum: rss + penalty,
-    }
+    let rss = evaluate(q, &state, means);
+    let sum = rss + penalties(q, &state.effects);
+    Evaluated { state, rss, sum }
 }
 
 // One trial: the state at length alpha of the direction d, after floor and projection.
 fn trial(
-    code: u64,
-    effects: &[usize],
-    groups: usize,
-    doses: &[f64],
-    grams: &[f64],
-    group: &[usize],
-    lower: &[f64],
-    upper: &[f64],
-    group_lower: &[f64],
-    group_upper: &[f64],
-    theta: &[f64],
-    s: State,
+    q: &NlmmProblem<'_>,
+    s: &State,
     d: &[f64],
     alpha: f64,
-    means: &mut [f64],
+    means: &mut [Mean; 512],
 ) -> Evaluated
-    requires { Sizes code effects.now groups doses.now grams.now group.now d.now means.old }
-    ensures { (result ≡ evaluated_from code effects.now groups doses.now grams.now group.now
-        theta.now
-        (tried_from code effects.now groups lower.now upper.now
-        group_lower.now group_upper.now s d.now alpha))
-        × Means code effects.now doses.now group.now result.state means.new }
+    requires { length d.now ≡ p (checked q.now) + q.now.groups * k (checked q.now) }
+    ensures tried { result.state ≡ tried_of (checked q.now) s.now d.now alpha }
+    ensures sums { result ≡ evaluated_of (checked q.now) result.state }
+    ensures kept { Means (checked q.now) result.state means.new }
 {
-    let z = try_step(
-        code,
-        effects,
-        groups,
-        lower,
-        upper,
-        group_lower,
-        group_upper,
-        s,
-        d,
-        alpha,
-    );
-    evaluate_state(code, effects, groups, doses, grams, group, theta, z, means)
-}
-
-// A round without a winner.
-fn lost(x: Evaluated, lambda: f64, converged: bool, trials: usize) -> Outcome
-    ensures { result ≡ lost_with x lambda converged trials }
-{
-    Outcome {
-        at: x,
-        lambda: lambda,
-        step: 0.0,
-        won: false,
-        converged: converged,
-        trials: trials,
-    }
+    evaluate_state(q, try_step(q, s, d, alpha), means)
 }
 
 // One round: up to 12 attempts of 20 lengths each. The first winner leaves both.
 pub fn round(
-    code: u64,
-    effects: &[usize],
-    groups: usize,
-    doses: &[f64],
-    grams: &[f64],
-    group: &[usize],
-    lower: &[f64],
-    upper: &[f64],
-    group_lower: &[f64],
-    group_upper: &[f64],
-    theta: &[f64],
-    x: Evaluated,
+    q: &NlmmProblem<'_>,
+    x: &Evaluated,
     n: BlockNormal,
     first: f64,
     d: &mut [f64],
-    means: &mut [f64],
+    means: &mut [Mean; 512],
 ) -> Outcome
-    requires { Sizes code effects.now groups doses.now grams.now group.now d.old means.old }
-    ensures { RoundAnswer code effects.now groups doses.now grams.now group.now
-        lower.now upper.now group_lower.now group_upper.now theta.now
-        x n first means.new result }
+    requires { length d.old ≡ p (checked q.now) + q.now.groups * k (checked q.now) }
+    ensures comes { ComesTo (checked q.now) x.now n first result }
+    ensures few { result.trials ≤ 240 }
+    ensures kept { Kept (checked q.now) means.new result.end }
 {
-    let p = n_params(code);
-    let k = effects.len();
-    let s = x.state;
-    let old = x.sum;
+    let p = q.curve.n_params();
+    let k = q.effects.len();
     let mut lambda = first;
-    let mut trials = 0usize;
-    let mut best = lost(x, first, false, 0);
-    let mut attempt = 0usize;
-    'attempts: while attempt < 12 {
-        if !n.solve(p, k, groups, lambda, d) {
-            return lost(x, lambda, false, trials);
+    let mut trials = 0;
+    let mut end = End::Lost;
+    'attempts: for attempt in 0..12usize {
+        if !n.solve(p, k, q.groups, lambda, d) {
+            return Outcome {
+                end: End::Lost,
+                trials,
+            };
         }
         if largest(d) < 1e-10 {
-            return lost(x, lambda, true, trials);
+            return Outcome {
+                end: End::Converged,
+                trials,
+            };
         }
         let mut alpha = 1.0;
-        let mut t = 0usize;
-        while t < 20 {
-            let y = trial(
-                code,
-                effects,
-                groups,
-                doses,
-                grams,
-                group,
-                lower,
-                upper,
-                group_lower,
-                group_upper,
-                theta,
-                s,
-                d,
-                alpha,
-                means,
-            );
+        for t in 0..20usize {
+            let y = trial(q, &x.state, d, alpha, means);
             trials += 1;
-            if y.sum < old {
-                best = Outcome {
+            if y.sum < x.sum {
+                end = End::Won(Winner {
                     at: y,
                     lambda: lower_lambda(lambda),
                     step: step_size(alpha, d),
-                    won: true,
-                    converged: false,
-                    trials: trials,
-                };
+                });
                 break 'attempts;
             }
-            alpha = alpha * 0.5;
-            t += 1;
+            alpha *= 0.5;
         }
         lambda = raise_lambda(lambda);
-        attempt += 1;
     }
-    if best.won {
-        return best;
-    }
-    lost(x, lambda, false, trials)
+    Outcome { end, trials }
 }

@@ -69,7 +69,7 @@ fn advance(list: &mut [f64], n: usize, d: &[f64], from: usize, alpha: f64)
     ensures { list.new ≡ moved_of n from d.now alpha list.old }
 {
     for j in 0..n {
-        list[j] = list[j] + alpha * d[from + j];
+        list[j] += alpha * d[from + j];
     }
 }
 

@@ -1,9 +1,8 @@
 -- One group of the direction: its damped block solved, and the fixed system less what the group takes up.
-use Rattle.std.specs.Prelude.{ℕ, ◌+◌, ◌*◌, Bool, cond, ◌&&◌, List, [], ◌∷◌, eqb, leb, Float, get_or, set, replicate, Option, option_map, option_and_then}
+use Rattle.std.specs.Prelude.{ℕ, ◌+◌, ◌*◌, Bool, cond, ◌&&◌, List, eqb, leb, Float, get_or, set, replicate, Option, option_map, option_and_then}
 use Rattle.std.specs.Float.{nan}
 use Rattle.math.specs.Basic.{add, sub, mul, zero, max_of}
 use Rattle.math.specs.Loops.{span}
-use Rattle.math.specs.Matrix.{rows}
 use Rattle.math.specs.Rationals.{1e-8}
 use Rattle.linalg.specs.declared.elimination.System.{System}
 use Rattle.linalg.specs.Loops.{tries}
@@ -20,25 +19,6 @@ fits p k groups = leb p 4 && leb 1 k && leb k 2 && leb groups 32
 -- a diagonal entry x, damped by a share of itself, or of 1e-8 where that is more
 abbrev pub damped_at : Float → Float → Float
 damped_at damping x = add x (mul damping (max_of x 1e-8))
-
-unfoldable pub damped_block : List Float → ℕ → Float → List (List Float)
-damped_block random g t =
-    rows (damped_at t (get_or random (g * 4) nan)) (get_or random (g * 4 + 1) nan) (get_or random (g * 4 + 2) nan)
-    (damped_at t (get_or random (g * 4 + 3) nan))
-
--- ---- a group among all
-
--- row i of a group's cross block
-abbrev pub row_of : List Float → ℕ → ℕ → Float × Float
-row_of cross g i = (get_or cross (g * 8 + i * 2) nan, get_or cross (g * 8 + i * 2 + 1) nan)
-
-unfoldable pub group_of : List Float → List Float → List Float → ℕ → Float → Group
-group_of random cross rhs g t =
-    record {
-      block = damped_block random g t;
-      rhs = (get_or rhs (g * 2) nan, get_or rhs (g * 2 + 1) nan);
-      cross = row_of cross g 0 ∷ row_of cross g 1 ∷ row_of cross g 2 ∷ row_of cross g 3 ∷ [];
-    }
 
 -- ---- the group solved
 
@@ -79,5 +59,5 @@ module _ (k p : ℕ) (b : Group) (o : Solution) where
 
 -- opens these definitions in a proof
 unfoldable pub group_steps : Unit {0}
-unfolding damped_block group_of dot_of columns_of solution_of reduce_row reduce_by
+unfolding dot_of columns_of solution_of reduce_row reduce_by
 group_steps = tt

@@ -5,13 +5,13 @@
 ghost use Rattle.std.specs.Prelude.{◌≡◌, ◌+◌, ◌*◌, ◌≤◌, ◌<◌, ◌↔◌, IsSome, IfSome, IsTrue, length};
 ghost use Rattle.math.specs.Basic.{is_finite};
 ghost use Rattle.math.specs.Lists.{every};
-ghost use Rattle.group_blocks.specs.Groups.{fits, damped_at, damped_block, dot_of, row_of, group_of, columns_of, solution_of, reduce_row, reduce_by};
+ghost use Rattle.group_blocks.specs.Groups.{fits, damped_at, dot_of, columns_of, solution_of, reduce_row, reduce_by};
 ghost use Rattle.group_blocks.specs.Components.{columns_times, effects_of, components_of};
 
 use linalg::elimination::System;
 use linalg::pair::solve_pair;
 
-// How many curve values, effects of a group and groups there are.
+// How many curve values, effects of a group and groups there are: p, k and groups.
 #[derive(Clone, Copy)]
 pub struct Shape {
     pub p: usize,
@@ -66,25 +66,6 @@ pub fn damped(x: f64, damping: f64) -> f64
     x + damping * math::max(x, 1e-8)
 }
 
-fn damped_block(random: &[f64; 128], g: usize, damping: f64) -> [[f64; 2]; 2]
-    requires { g < 32 }
-    ensures { result ≡ damped_block random.now g damping }
-{
-    let at = g * 4;
-    [
-        [damped(random[at], damping), random[at + 1]],
-        [random[at + 2], damped(random[at + 3], damping)],
-    ]
-}
-
-fn row(cross: &[f64; 256], g: usize, i: usize) -> (f64, f64)
-    requires { (g < 32) × (i < 4) }
-    ensures { result ≡ row_of cross.now g i }
-{
-    let at = g * 8 + i * 2;
-    (cross[at], cross[at + 1])
-}
-
 // A row of k numbers times a column.
 fn dot(k: usize, row: (f64, f64), column: (f64, f64)) -> f64
     ensures { result ≡ dot_of k row column }
@@ -94,28 +75,6 @@ fn dot(k: usize, row: (f64, f64), column: (f64, f64)) -> f64
 }
 
 impl Group {
-    pub fn new(
-        random: &[f64; 128],
-        cross: &[f64; 256],
-        rhs: &[f64; 64],
-        g: usize,
-        damping: f64,
-    ) -> Group
-        requires { g < 32 }
-        ensures { result ≡ group_of random.now cross.now rhs.now g damping }
-    {
-        Group {
-            block: damped_block(random, g, damping),
-            rhs: (rhs[g * 2], rhs[g * 2 + 1]),
-            cross: [
-                row(cross, g, 0),
-                row(cross, g, 1),
-                row(cross, g, 2),
-                row(cross, g, 3),
-            ],
-        }
-    }
-
     fn columns(&self, shape: Shape) -> Option<[(f64, f64); 4]>
         ensures { result ≡ columns_of shape.k shape.p self.now }
     {

@@ -4,7 +4,8 @@
 ghost use Rattle.std.specs.Prelude.{◌≡◌, ◌≤◌, ◌<◌};
 ghost use Rattle.linalg.specs.Elimination.{pivot_of, swap_of, clear_row, column_of, back_of, eliminate_of, solve_of};
 
-// a x = b. Row i of a stands at 4 i; of n equations the first n rows and columns count.
+// a x = b; of n equations the first n rows and columns count. Row i of a stands at 4 i: a is flat, as a fit's
+// fixed block is, which it is made from.
 #[derive(Clone, Copy)]
 pub struct System {
     pub a: [f64; 16],

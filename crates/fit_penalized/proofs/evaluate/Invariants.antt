@@ -1,16 +1,16 @@
+-- The squares of the first i readings are summed, and their curves are kept.
 use mathlib.Core.Path.{◌≡◌}
-use Prim.Native.Nat.{◌-◌, ◌<◌, ◌≤◌, ℕ}
-use lib.ListN.{length}
+use Prim.Native.Nat.{ℕ, ◌<◌}
+use lib.ListN.{get_or, length}
 use Rattle.math.specs.Basic.{zero}
 use Rattle.math.specs.Loops.{iter}
-use Rattle.fit_penalized.specs.Penalized.{mean_at, mean_in, square_at}
+use Rattle.fit_refusals.specs.Given.{checked}
+use Rattle.fit_penalized.specs.Penalized.{mean_at, no_mean, square_at}
 use Rattle.fit_penalized.proofs.evaluate.Given as goal
 
 abbrev pub invariant-loop-i : goal.invariant-loop-i
-invariant-loop-i l = (l.i ≤ length l.doses)
-    × ((length l.means ≡ 2560)
-    × ((l.t ≡ iter (square_at l.code l.effects l.doses l.group l.v l.b l.grams) l.i zero)
-    × ((j : ℕ) → j < l.i → mean_in l.means j ≡ mean_at l.code l.effects l.doses l.group l.v l.b j)))
-
-abbrev pub decreases-loop-i : goal.decreases-loop-i
-decreases-loop-i l = length l.doses - l.i
+invariant-loop-i l = record {
+  room : length l.means ≡ 512;
+  rss : l.rss ≡ iter (square_at (checked l.q) l.s) l.i zero;
+  kept : (j : ℕ) → j < l.i → get_or l.means j no_mean ≡ mean_at (checked l.q) l.s j;
+}

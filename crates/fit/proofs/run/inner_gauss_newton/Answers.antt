@@ -1,41 +1,23 @@
 -- The direction has p + groups * k places, at most 68. Assumes nothing.
-use mathlib.Core.Path.{◌≡◌, sym, ap, ◌∙◌}
-use Prim.Native.Nat.{ℕ, ◌+◌, ◌*◌}
-use native.Mathlib.Nat.{mul-le-mul}
+use mathlib.Core.Path.{◌≡◌, sym}
+use Prim.Native.Nat.{◌+◌, ◌*◌, ◌≤◌}
 use native.Mathlib.Omega.{arith}
-use lib.ListN.{length}
-use Rattle.fit_step.specs.laws.Sized.{params_most}
-use Rattle.fit.proofs.Turns.{take_long}
 use borrow.Author.Rules.{rules}
+use lib.ListN.{length}
+use Rattle.std.proofs.lemmas.List.{length-take-le}
+use Rattle.curves.specs.MeanFn.{code_of}
+use Rattle.fit_step.specs.laws.Sized.{params_most, all_fit}
 use Rattle.fit.proofs.run.inner_gauss_newton.Goals as goal
+use Rattle.fit.proofs.run.inner_gauss_newton.Goals.{After-n_params}
 
-pub overflow_mul-size : goal.overflow_mul-size
-overflow_mul-size c =
-    let P = c.requires in
-    omega (arith, mul-le-mul P.1.1.0 P.0.two)
-
-pub overflow_add-size : goal.overflow_add-size
-overflow_add-size c =
-    let P = c.requires in
-    omega (arith, mul-le-mul P.1.1.0 P.0.two, params_most c.args.code, c.n_params.ensures)
-
-pub slice_bounds-d-end : goal.slice_bounds-d-end
-slice_bounds-d-end c =
-    let P = c.requires in
-    omega (arith, mul-le-mul P.1.1.0 P.0.two, params_most c.args.code, c.n_params.ensures)
+room : (c : After-n_params) → c.n_params.result + c.args.q.now.groups * length c.args.q.now.effects.now ≤ length c.room_for_direction-d.result
+room c =
+    let h : length c.room_for_direction-d.result ≡ 68 = search rules in
+    let z = c.args.q.now.valid.sizes in
+    omega (arith, h, c.n_params.ensures, params_most (code_of c.args.q.now.curve), all_fit _ _ z.groups_high z.effects_high)
 
 pub slice_bounds-run-end : goal.slice_bounds-run-end
-slice_bounds-run-end c =
-    let P = c.requires in
-    let h : length c.room_for_direction-d.result ≡ 68 = search rules in
-    sym (take_long _ c.room_for_direction-d.result (omega (arith, h, mul-le-mul P.1.1.0 P.0.two, params_most c.args.code, c.n_params.ensures)))
+slice_bounds-run-end c = sym (length-take-le _ _ (room (goal.at.slice_bounds-run-end c).After-n_params))
 
-pub run-requires : goal.run-requires
-run-requires c =
-    let g = c.args in
-    let P = c.requires in
-    let N = c.n_params in
-    let h : length c.room_for_direction-d.result ≡ 68 = search rules in
-    let e : length c.room_for_curves-means.result ≡ 2560 = search rules in
-    let d = take_long (N.result + g.groups * length g.effects.now) c.room_for_direction-d.result (omega (arith, h, mul-le-mul P.1.1.0 P.0.two, params_most g.code, N.ensures)) in
-    (record { slots = P.0; readings = P.1.0; few = P.1.1.0; direction = d ∙ ap (λ (n : ℕ). n + g.groups * length g.effects.now) N.ensures; curves = e }, P.1.1.1)
+pub run-requires-clause-long : goal.run-requires-clause-long
+run-requires-clause-long c = rw (← c.n_params.ensures) (length-take-le _ _ (room (goal.at.run-requires-clause-long c).After-n_params))

@@ -1,7 +1,7 @@
 -- Each test that is passed answers one of the eight definitions. Assumes nothing.
 use mathlib.Core.Path.{sym}
 use Rattle.fit_refusals.specs.laws.Valid.{valid_of}
-use Rattle.fit_refusals.proofs.Laws.{known}
+use Rattle.fit_refusals.specs.laws.Codes.{known}
 use Rattle.fit_refusals.proofs.Problem.first_eight.Goals as goal
 
 pub invariant_of-result : goal.invariant_of-result

@@ -8,5 +8,5 @@ use Rattle.block_solve.proofs.normal.BlockNormal.eliminate_groups.Goals as goal
 pub returns-in_err-solution : goal.returns-in_err-solution
 unfolding eliminated_of
 returns-in_err-solution c =
-    let e = sym (rw c.new-group.ensures at c.solve.ensures) ∙ c.in_err-solution.was in
+    let e = sym (rw c.group-group.ensures at c.solve.ensures) ∙ c.in_err-solution.was in
     c.from_residual.ensures ∙ tries_stop _ _ c.args.shape.groups c.loop-g.g _ c.loop-g.invariant (ap (option_map _) e) c.loop-g-test.true
