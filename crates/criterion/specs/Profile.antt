@@ -1,13 +1,11 @@
 -- The criterion and sigma2 at what a fit answers (`profile_objective`).
-use Rattle.std.specs.Prelude.{ℕ, Bool, cond, ◌&&◌, List, [], ◌∷◌, eqb, Float, get_or, length}
+use Rattle.std.specs.Prelude.{ℕ, Bool, cond, ◌&&◌, List, [], ◌∷◌, eqb, Float, Option, Some, None, get_or, length}
 use Rattle.std.specs.Float.{nan}
 use Rattle.math.specs.Basic.{add, sub, mul, div, bits, one, max_of}
 use Rattle.math.specs.Ln.{ln_of}
-use Rattle.curves.specs.MeanFn.{n_params_of}
 use Rattle.re_cov.specs.ReCov.{1e-12, log_det_of}
+use Rattle.fit_refusals.specs.Problem.{Problem, p, k}
 use Rattle.fit_penalized.specs.Penalized.{penalty_sum}
-use Rattle.criterion_agq.specs.declared.Correction.{Correction}
-use Rattle.criterion_agq.specs.declared.Correction.TheVariants.{Added, None}
 use Rattle.criterion.specs.declared.profile.Profile.{Profile}
 use Rattle.criterion_groups.specs.Groups.{count_of}
 use Rattle.criterion_logdet.specs.LogDet.{logdet_of}
@@ -48,28 +46,25 @@ laplace_of scalar reml n m k p df sigma2 rss pen logdet =
     cond scalar (scalar_of reml m p df sigma2 rss pen logdet) (cond reml (reml_of m k p df sigma2 rss pen logdet) (ml_of n sigma2 logdet))
 
 -- where the correction is none, nothing is added
-unfoldable pub corrected : Float → Correction → Float
-corrected c (Added q) = add c q
+abbrev pub corrected : Float → Option Float → Float
 corrected c None = c
-
--- the scalar branch has no gradients in it
-unfoldable pub det_of : ℕ → List ℕ → List Float → List ℕ → ℕ → List Float → List Float → List Float → Bool → Float
-det_of code effects doses group groups theta values b scalar =
-    cond scalar (mul (count_of groups) (log_det_of (length effects) theta)) (logdet_of code effects values doses group theta b groups)
+corrected c (Some q) = add c q
 
 -- at the curve values and effects that a fit wrote, with its rss
-module _ (code : ℕ) (effects : List ℕ) (doses grams : List Float) (group : List ℕ) (groups : ℕ) (theta values b : List Float) where
+module _ (q : Problem) (values b : List Float) where
+  -- the scalar branch has no gradients in it
+  unfoldable pub det_of : Bool → Float
+  det_of scalar = cond scalar (mul (count_of q.groups) (log_det_of (k q) q.theta)) (logdet_of q values b)
+
   unfoldable pub profile_from : Bool → ℕ → Float → Profile
   profile_from reml nAgq rss =
-      let k = length effects in
-      let p = n_params_of code in
-      let scalar = is_scalar code k in
-      let pen = penalty_sum k groups theta b in
-      let df = df_of reml (length doses) p in
+      let scalar = is_scalar q.code (k q) in
+      let pen = penalty_sum q b in
+      let df = df_of reml (length q.doses) (p q) in
       let sigma2 = sigma2_of scalar rss pen df in
-      let c = laplace_of scalar reml (length doses) groups k p df sigma2 rss pen (det_of code effects doses group groups theta values b scalar) in
-      record { criterion = corrected c (agq_of code effects values theta sigma2 doses grams group b groups nAgq); sigma2 = sigma2 }
+      let c = laplace_of scalar reml (length q.doses) q.groups (k q) (p q) df sigma2 rss pen (det_of scalar) in
+      record { criterion = corrected c (agq_of q values b sigma2 nAgq); sigma2 = sigma2 }
 
 -- a curve's values in four places, of which those past its last are not read
-unfoldable pub four_of : List Float → List Float
+abbrev pub four_of : List Float → List Float
 four_of l = get_or l 0 nan ∷ get_or l 1 nan ∷ get_or l 2 nan ∷ get_or l 3 nan ∷ []

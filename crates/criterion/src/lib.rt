@@ -3,19 +3,18 @@
 
 pub mod profile;
 
-ghost use Rattle.std.specs.Prelude.{◌≡◌};
-ghost use Rattle.fit_refusals.specs.Problem.{problem_of};
+ghost use Rattle.std.specs.Prelude.{◌≡◌, length};
+ghost use Rattle.fit_refusals.specs.Given.{given, checked};
+ghost use Rattle.fit_refusals.specs.Valid.{ValidFit};
+ghost use Rattle.fit.specs.Fit.{answer_of, fit_of};
 ghost use Rattle.criterion.specs.Profile.{four_of};
-ghost use Rattle.criterion.specs.Answer.{told, call_of};
+ghost use Rattle.criterion.specs.Answer.{told, call_of, profile_of};
 
 use crate::profile::{Profile, profile_objective};
-use fit::fit;
-
-#[derive(Clone, Copy)]
-pub enum Answer {
-    Refused(u64),
-    Done(Profile),
-}
+use criterion_groups::Estimate;
+use fit::fit_checked;
+use fit_refusals::{NlmmProblem, Problem};
+use refusal::Refusal;
 
 // A curve's values in four places; those past its last are NaNs, and are not read.
 fn four(values: &[f64]) -> [f64; 4]
@@ -29,69 +28,43 @@ fn four(values: &[f64]) -> [f64; 4]
     ]
 }
 
-// Refused as the fit is, with both lists as they were; else the lists are written as the fit writes them,
-// and the criterion is worked out from them.
-pub fn criterion(
-    code: u64,
-    doses: &[f64],
-    grams: &[f64],
-    group: &[usize],
-    groups: usize,
-    effects: &[usize],
-    starts: &[f64],
-    lower: &[f64],
-    upper: &[f64],
-    group_lower: &[f64],
-    group_upper: &[f64],
-    theta: &[f64],
+// The lists are written as the fit writes them, and the criterion is worked out from them.
+#[tactic(auto, unfolding(crate::specs::Answer::profile_of, fit::specs::Answer::told))]
+pub fn criterion_checked(
+    q: &NlmmProblem<'_>,
     max_rounds: u64,
     reml: bool,
     n_agq: u64,
     values: &mut [f64],
     effects_out: &mut [f64],
-) -> Answer
-    ensures { told result values.new effects_out.new
-        ≡ call_of
-        (problem_of code doses.now grams.now group.now groups effects.now
-        starts.now lower.now upper.now
-        group_lower.now group_upper.now theta.now)
-        max_rounds reml n_agq values.old effects_out.old }
+) -> Profile
+    requires { ValidFit (checked q.now) (length values.old) (length effects_out.old) max_rounds }
+    ensures profile { result ≡ profile_of (checked q.now) max_rounds reml n_agq }
+    ensures values { values.new ≡ (answer_of (checked q.now) (fit_of (checked q.now) max_rounds)).values }
+    ensures effects { effects_out.new ≡ (answer_of (checked q.now) (fit_of (checked q.now) max_rounds)).effects }
 {
-    let a = fit(
-        code,
-        doses,
-        grams,
-        group,
-        groups,
-        effects,
-        starts,
-        lower,
-        upper,
-        group_lower,
-        group_upper,
-        theta,
-        max_rounds,
-        values,
-        effects_out,
-    );
-    match a {
-        fit::Answer::Refused(n) => Answer::Refused(n),
-        fit::Answer::Done(f) => {
-            let v = four(values);
-            Answer::Done(profile_objective(
-                code,
-                v,
-                effects,
-                doses,
-                grams,
-                group,
-                groups,
-                theta,
-                effects_out,
-                f.rss,
-                reml,
-                n_agq,
-            ))
-        }
-    }
+    let fitted = fit_checked(q, max_rounds, values, effects_out);
+    let at = Estimate {
+        problem: *q,
+        values: four(values),
+        b: effects_out,
+    };
+    profile_objective(&at, fitted.rss, reml, n_agq)
+}
+
+// Refused as the fit is, with both lists as they were; else as `criterion_checked`.
+#[tactic(auto, unfolding(crate::specs::Answer::call_of))]
+pub fn criterion(
+    problem: &Problem<'_>,
+    max_rounds: u64,
+    reml: bool,
+    n_agq: u64,
+    values: &mut [f64],
+    effects_out: &mut [f64],
+) -> Result<Profile, Refusal>
+    ensures { told result values.new effects_out.new
+        ≡ call_of (given problem.now) max_rounds reml n_agq values.old effects_out.old }
+{
+    let q = problem.for_fit(max_rounds, values.len(), effects_out.len())?;
+    Ok(criterion_checked(&q, max_rounds, reml, n_agq, values, effects_out))
 }

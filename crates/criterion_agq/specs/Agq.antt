@@ -1,27 +1,22 @@
 -- The quadrature that the criterion adds (`agq_correction` for one effect, `agq_correction_product` for two).
-use Rattle.std.specs.Prelude.{ℕ, ◌*◌, ◌/◌, ◌%◌, Bool, true, false, not, ◌||◌, cond, List, [], ◌∷◌, ◌++◌, eqb, Float, get_or, length}
+use Rattle.std.specs.Prelude.{ℕ, ◌*◌, ◌/◌, ◌%◌, not, ◌||◌, cond, List, [], ◌∷◌, ◌++◌, eqb, Float, Option, Some, None, option_and_then, get_or, length}
 use Rattle.std.specs.Float.{nan}
 use Rattle.std.specs.Float.Ieee.{le}
 use Rattle.math.specs.Basic.{add, sub, mul, div, bits, zero, half, one, is_finite}
 use Rattle.math.specs.Ln.{ln_of}
 use Rattle.math.specs.Sqrt.{sqrt_of}
-use Rattle.math.specs.Loops.{iter, until}
+use Rattle.math.specs.Loops.{iter}
 use Rattle.math.specs.Matrix.{rows, entry}
 use Rattle.math.specs.Parts.{part}
 use Rattle.re_cov.specs.ReCov.{dot_of, inverse_of, penalty_of}
+use Rattle.linalg.specs.Loops.{tries}
 use Rattle.linalg.specs.Pair as Pair
-use Rattle.linalg.specs.declared.pair.Matrix.{Matrix}
-use Rattle.linalg.specs.declared.pair.Matrix.TheVariants.{Entries}
-use Rattle.linalg.specs.declared.pair.Matrix.TheVariants as Matrices
-use Rattle.quadrature.specs.declared.orders.Order.{Order}
-use Rattle.quadrature.specs.declared.orders.Order.TheVariants as Orders
 use Rattle.quadrature.specs.Orders.{product_of}
 use Rattle.quadrature.specs.Rules.{gh_rule}
 use Rattle.quadrature.specs.Sums.{log_sum_exp}
+use Rattle.fit_refusals.specs.Problem.{Problem, k}
 use Rattle.criterion_agq.specs.declared.Node.{Node}
-use Rattle.criterion_agq.specs.declared.Correction.{Correction}
-use Rattle.criterion_agq.specs.declared.Correction.TheVariants.{Added, None}
-use Rattle.criterion_groups.specs.Groups.{own_of, gradients_at, group_squares}
+use Rattle.criterion_groups.specs.Groups.{own_of, group_squares, block_by}
 
 -- EPSILON, 2^-52; -1/2 and -2
 abbrev pub epsilon : Float
@@ -33,34 +28,15 @@ minus_half = bits 0xbfe0_0000_0000_0000
 abbrev pub minus_two : Float
 minus_two = bits 0xc000_0000_0000_0000
 
--- ---- a group's curvature
-
--- a block with the products of the gradients d, each divided by sigma2, added
-unfoldable pub add_quotients : Float → List (List Float) → List Float → List (List Float)
-add_quotients sigma2 m d =
-    let u = get_or d 0 nan in
-    let v = get_or d 1 nan in
-    rows (add (entry m 0 0) (div (mul u u) sigma2)) (add (entry m 0 1) (div (mul u v) sigma2)) (add (entry m 1 0) (div (mul v u) sigma2)) (add (entry m 1 1) (div (mul v v) sigma2))
-
-module _ (code : ℕ) (effects : List ℕ) (values : List Float) (sigma2 : Float) where
-  -- of readings at effects b, from the block m on
-  abbrev pub curvature_at : List Float → List Float → ℕ → List (List Float) → List (List Float)
-  curvature_at b doses i m = add_quotients sigma2 m (gradients_at code effects values b (get_or doses i nan))
-
-  unfoldable pub curvature_of : List Float → List Float → List (List Float) → List (List Float)
-  curvature_of b doses m = iter (curvature_at b doses) (length doses) m
+-- ---- what the nodes are multiplied by, from the curvature m
 
 -- one effect: 1 / the root of the curvature, none where it is at most 2^-52 or not finite
-abbrev pub scale_of : Float → Matrix
-scale_of a = cond (le a epsilon || not (is_finite a)) Matrices.None (Entries (div one (sqrt_of a)) zero zero zero)
+abbrev pub scale_of : Float → Option (List (List Float))
+scale_of a = cond (le a epsilon || not (is_finite a)) None (Some (rows (div one (sqrt_of a)) zero zero zero))
 
 -- two: the lower Cholesky factor of the inverse, none where either is
-abbrev pub factor_of : Matrix → Matrix
-factor_of (Entries a b c d) = Pair.cholesky_of 2 (rows a b c d)
-factor_of Matrices.None = Matrices.None
-
-unfoldable pub scaling_of : ℕ → List (List Float) → Matrix
-scaling_of k m = cond (eqb k 1) (scale_of (entry m 0 0)) (factor_of (Pair.inverse_of 2 m))
+unfoldable pub scaling_of : ℕ → List (List Float) → Option (List (List Float))
+scaling_of k m = cond (eqb k 1) (scale_of (entry m 0 0)) (option_and_then (Pair.cholesky_of 2) (Pair.inverse_of 2 m))
 
 -- ---- a group's nodes
 
@@ -78,87 +54,64 @@ grid_node order i j = record { z0 = (gh_rule order i).z; z1 = (gh_rule order j).
 unfoldable pub node_of : ℕ → ℕ → ℕ → Node
 node_of k order t = cond (eqb k 1) (line_node order t) (grid_node order (t % order) (t / order))
 
--- the effects at a node: b and the scaling a o, c d times the node; for one effect the second place is +0
-unfoldable pub moved_of : ℕ → Float → Float → Float → Float → Node → List Float → List Float
-moved_of k a o c d n b =
-    cond (eqb k 1) (add (get_or b 0 nan) (mul a n.z0) ∷ zero ∷ [])
-    (add (get_or b 0 nan) (dot_of a o n.z0 n.z1) ∷ add (get_or b 1 nan) (dot_of c d n.z0 n.z1) ∷ [])
+-- the effects at a node: b and the scaling s times the node; for one effect the second place is +0
+unfoldable pub moved_of : ℕ → List (List Float) → Node → List Float → List Float
+moved_of k s n b =
+    cond (eqb k 1) (add (get_or b 0 nan) (mul (entry s 0 0) n.z0) ∷ zero ∷ [])
+    (add (get_or b 0 nan) (dot_of (entry s 0 0) (entry s 0 1) n.z0 n.z1) ∷ add (get_or b 1 nan) (dot_of (entry s 1 0) (entry s 1 1) n.z0 n.z1) ∷ [])
 
 -- a node's term: the logarithm of its weight, less half of what the rss over sigma2 and the penalty gain
 unfoldable pub term_of : Float → Float → Float → Float → Float → Float → Float
 term_of sigma2 rssHat penHat logW rss pen =
     add logW (sub (mul minus_half (div (sub rss rssHat) sigma2)) (mul half (sub pen penHat)))
 
--- whether there is none, and the sum
-abbrev pub is_none : Correction → Bool
-is_none (Added t) = false
-is_none None = true
-
-abbrev pub sum_of : Correction → Float
-sum_of (Added t) = t
-sum_of None = nan
-
 -- ---- a group, then all
 
-module _ (code : ℕ) (effects : List ℕ) (values theta : List Float) (sigma2 : Float) where
+-- of the order so many points in each dimension
+module _ (q : Problem) (values : List Float) (sigma2 : Float) (order : ℕ) where
   -- at a group's readings and effects b
   module _ (doses grams b : List Float) where
     -- at the effects c of a node
     abbrev pub term_for : Float → List Float → Float
     term_for logW c =
-        let k = length effects in
-        term_of sigma2 (group_squares code effects values b doses grams) (penalty_of k theta b) logW (group_squares code effects values c doses grams) (penalty_of k theta c)
+        term_of sigma2 (group_squares q values b doses grams) (penalty_of (k q) q.theta b) logW (group_squares q values c doses grams) (penalty_of (k q) q.theta c)
 
-    -- the term of node t, with the scaling a o, c d
-    abbrev pub term_at : ℕ → Float → Float → Float → Float → ℕ → Float
-    term_at order a o c d t =
-        let k = length effects in
-        let n = node_of k order t in
-        term_for n.log_w (moved_of k a o c d n b)
+    -- the term of node t, with the scaling s
+    abbrev pub term_at : List (List Float) → ℕ → Float
+    term_at s t =
+        let n = node_of (k q) order t in
+        term_for n.log_w (moved_of (k q) s n b)
 
-    abbrev pub more_terms : ℕ → Float → Float → Float → Float → ℕ → List Float → List Float
-    more_terms order a o c d t l = l ++ (term_at order a o c d t ∷ [])
+    abbrev pub more_terms : List (List Float) → ℕ → List Float → List Float
+    more_terms s t l = l ++ (term_at s t ∷ [])
 
-    unfoldable pub terms_of : ℕ → Float → Float → Float → Float → List Float
-    terms_of order a o c d = iter (more_terms order a o c d) (nodes_of (length effects) order) []
+    unfoldable pub terms_of : List (List Float) → List Float
+    terms_of s = iter (more_terms s) (nodes_of (k q) order) []
 
     -- the sum so far, t, with -2 times the logarithm of the terms' sum; none where that is not finite, or where there is no scaling
-    abbrev pub add_inner : Float → Float → Correction
-    add_inner t v = cond (is_finite v) (Added (add t (mul minus_two v))) None
+    abbrev pub add_inner : Float → Float → Option Float
+    add_inner t v = cond (is_finite v) (Some (add t (mul minus_two v))) None
 
-    abbrev pub add_scaled : ℕ → Float → Matrix → Correction
-    add_scaled order t (Entries a o c d) = add_inner t (log_sum_exp (terms_of order a o c d))
-    add_scaled order t Matrices.None = None
+    abbrev pub add_scaled : Float → List (List Float) → Option Float
+    add_scaled t s = add_inner t (log_sum_exp (terms_of s))
+
+    -- the curvature: the covariance's inverse, then the products of the readings' gradients, each divided by sigma2
+    abbrev pub curvature_of : List (List Float)
+    curvature_of = block_by (λ x. div x sigma2) q values b doses (inverse_of (k q) q.theta)
 
     -- readings that are none add nothing
-    unfoldable pub add_group : ℕ → Float → Correction
-    add_group order t =
-        cond (eqb (length doses) 0) (Added t)
-        (add_scaled order t (scaling_of (length effects) (curvature_of code effects values sigma2 b doses (inverse_of (length effects) theta))))
+    unfoldable pub add_group : Float → Option Float
+    add_group t = cond (eqb (length doses) 0) (Some t) (option_and_then (add_scaled t) (scaling_of (k q) curvature_of))
 
-  module _ (doses grams : List Float) (group : List ℕ) (b : List Float) (order : ℕ) where
-    unfoldable pub group_at : ℕ → Float → Correction
-    group_at g t = add_group (own_of group g doses) (own_of group g grams) (part (g * length effects) (length effects) b) order t
-
-    abbrev pub agq_stop : ℕ → Float → Bool
-    agq_stop g t = is_none (group_at g t)
-
-    abbrev pub agq_step : ℕ → Float → Float
-    agq_step g t = sum_of (group_at g t)
-
-    -- the groups from g on, with t so far
-    abbrev pub groups_from : ℕ → ℕ → Float → Correction
-    groups_from left g t = until agq_stop (λ g t. None) agq_step (λ t. Added t) left g t
+  -- at the effects b of all groups
+  module _ (b : List Float) where
+    unfoldable pub group_at : ℕ → Float → Option Float
+    group_at g t = add_group (own_of q.group g q.doses) (own_of q.group g q.grams) (part (g * k q) (k q) b) t
 
     -- the groups in order, from 0; none where one of them is, whatever came before it
-    unfoldable pub groups_of : ℕ → Correction
-    groups_of groups = groups_from groups 0 zero
+    unfoldable pub groups_of : Option Float
+    groups_of = tries group_at q.groups zero
 
-  module _ (doses grams : List Float) (group : List ℕ) (b : List Float) (groups : ℕ) where
-    abbrev pub by_order : Order → Correction
-    by_order Orders.None = None
-    by_order (Orders.Points order) = groups_of doses grams group b order groups
-
-    -- none also where no rule applies
-    unfoldable pub agq_of : ℕ → Correction
-    agq_of nAgq = by_order (product_of nAgq (length effects))
+-- none also where no rule applies
+unfoldable pub agq_of : Problem → List Float → List Float → Float → ℕ → Option Float
+agq_of q values b sigma2 nAgq = option_and_then (λ order. groups_of q values sigma2 order b) (product_of nAgq (k q))

@@ -2,19 +2,25 @@
 // effect, `agq_correction_product` for two). At a node only the group's own readings are evaluated.
 #![tactic(auto)]
 
-ghost use Rattle.std.specs.Prelude.{◌≡◌, ◌≤◌, ◌+◌, length, take};
-ghost use Rattle.re_cov.specs.ReCov.{dot_of};
-ghost use Rattle.fit_step.specs.Sized.{Effects};
-ghost use Rattle.criterion_groups.specs.Groups.{Lists};
-ghost use Rattle.criterion_agq.specs.Agq.{add_quotients, curvature_of, scaling_of, nodes_of, node_of, moved_of};
-ghost use Rattle.criterion_agq.specs.Agq.{term_of, terms_of, add_group, group_at, groups_of, agq_of};
+ghost use Rattle.std.specs.Prelude.{◌≡◌, ◌≤◌, ◌<◌, length};
+ghost use Rattle.fit_refusals.specs.Given.{checked};
+ghost use Rattle.re_cov.specs.ReCov.{penalty_of};
+ghost use Rattle.criterion_groups.specs.Groups.{group_squares};
+ghost use Rattle.criterion_agq.specs.Agq.{scaling_of, nodes_of, node_of, moved_of, term_of, terms_of, add_group, group_at, groups_of, agq_of};
 
-use criterion_groups::{gradients, group_size, group_squares, own_readings};
-use linalg::pair::{Matrix, cholesky, inverse};
-use quadrature::orders::{Order, resolve_gh_order_product};
+use criterion_groups::{Estimate, Filled, Group, own_readings};
+use linalg::pair::{cholesky, inverse};
+use math::ln::ln;
+use quadrature::orders::resolve_gh_order_product;
 use quadrature::rules::gh_rule;
 use quadrature::sums::log_sum_exp;
-use re_cov::{re_penalty, sigma_inv_from_theta};
+use re_cov::{dot, re_penalty, sigma_inv_from_theta};
+
+// The least curvature of one effect that is scaled by: the Rust's EPSILON, 2^-52.
+const EPSILON: f64 = 2.220446049250313e-16;
+
+// The most nodes that a group has: 11 points in each of two dimensions.
+const NODES: usize = 121;
 
 // A node in one or two dimensions and the logarithm of its weight.
 #[derive(Clone, Copy)]
@@ -24,71 +30,39 @@ pub struct Node {
     pub log_w: f64,
 }
 
-// What is added, or that there is none.
+// The rss of a group's readings and the penalty of its effects.
 #[derive(Clone, Copy)]
-pub enum Correction {
-    Added(f64),
-    None,
-}
-
-// The block m with the products of the gradients d, each divided by sigma2, added.
-fn add_quotients(sigma2: f64, m: [[f64; 2]; 2], d: [f64; 2]) -> [[f64; 2]; 2]
-    ensures { result ≡ add_quotients sigma2 m d }
-{
-    let u = d[0];
-    let v = d[1];
-    [
-        [m[0][0] + u * u / sigma2, m[0][1] + u * v / sigma2],
-        [m[1][0] + v * u / sigma2, m[1][1] + v * v / sigma2],
-    ]
-}
-
-// The curvature of some readings at effects b, from the block first on.
-fn curvature(
-    code: u64,
-    values: [f64; 4],
-    effects: &[usize],
-    sigma2: f64,
-    b: &[f64],
-    doses: &[f64],
-    first: [[f64; 2]; 2],
-) -> [[f64; 2]; 2]
-    requires { Effects effects.now }
-    ensures { result ≡ curvature_of code effects.now values sigma2 b.now doses.now first }
-{
-    let mut m = first;
-    let mut i = 0usize;
-    while i < doses.len() {
-        let d = gradients(code, values, effects, b, doses[i]);
-        let w = add_quotients(sigma2, m, d);
-        m = w;
-        i += 1;
-    }
-    m
+struct Misfit {
+    rss: f64,
+    pen: f64,
 }
 
 // What the nodes are multiplied by: 1 / the root of one effect's curvature, or the lower factor of the
 // inverse of two effects'.
-fn scaling(k: usize, m: [[f64; 2]; 2]) -> Matrix
-    ensures { result ≡ scaling_of k m }
+#[tactic(auto, unfolding(crate::specs::Agq::scaling_of))]
+fn scaling(k: usize, curvature: [[f64; 2]; 2]) -> Option<[[f64; 2]; 2]>
+    ensures { result ≡ scaling_of k curvature }
 {
-    if k == 1 {
-        let a = m[0][0];
-        if a <= 2.220446049250313e-16 {
-            return Matrix::None;
-        }
-        if math::is_finite(a) {
-            return Matrix::Entries(1.0 / math::sqrt::sqrt(a), 0.0, 0.0, 0.0);
-        }
-        return Matrix::None;
+    if k != 1 {
+        return cholesky(2, inverse(2, curvature)?);
     }
-    let Matrix::Entries(a, b, c, d) = inverse(2, m) else {
-        return Matrix::None;
-    };
-    cholesky(2, [[a, b], [c, d]])
+    let a = curvature[0][0];
+    if a <= EPSILON || !math::is_finite(a) {
+        return None;
+    }
+    Some([[1.0 / math::sqrt::sqrt(a), 0.0], [0.0, 0.0]])
+}
+
+#[tactic(auto, using(crate::proofs::Laws::squared))]
+fn node_count(k: usize, order: usize) -> usize
+    requires { order ≤ 11 }
+    ensures { result ≡ nodes_of k order }
+{
+    if k == 1 { order } else { order * order }
 }
 
 // The t-th node of the product of k rules: the first dimension is t mod order, the second t / order.
+#[tactic(auto, unfolding(crate::specs::Agq::node_of))]
 fn node_at(k: usize, order: usize, t: usize) -> Node
     requires { 1 ≤ order }
     ensures { result ≡ node_of k order t }
@@ -98,7 +72,7 @@ fn node_at(k: usize, order: usize, t: usize) -> Node
         return Node {
             z0: p.z,
             z1: 0.0,
-            log_w: math::ln::ln(p.w),
+            log_w: ln(p.w),
         };
     }
     let p = gh_rule(order, t % order);
@@ -106,21 +80,16 @@ fn node_at(k: usize, order: usize, t: usize) -> Node
     Node {
         z0: p.z,
         z1: q.z,
-        log_w: 0.0 + math::ln::ln(p.w) + math::ln::ln(q.w),
+        log_w: 0.0 + ln(p.w) + ln(q.w),
     }
 }
 
-// The product of a row of two and a node.
-fn dot(a: f64, b: f64, c: f64, d: f64) -> f64
-    ensures { result ≡ dot_of a b c d }
+// The effects at a node: b and the scaling times the node.
+#[tactic(auto, unfolding(crate::specs::Agq::moved_of))]
+fn moved(k: usize, scaling: [[f64; 2]; 2], n: Node, b: &[f64]) -> [f64; 2]
+    ensures { result ≡ moved_of k scaling n b.now }
 {
-    0.0 + a * c + b * d
-}
-
-// The effects at a node: b and the scaling a o, c d times the node.
-fn moved(k: usize, a: f64, o: f64, c: f64, d: f64, n: Node, b: &[f64]) -> [f64; 2]
-    ensures { result ≡ moved_of k a o c d n b.now }
-{
+    let [[a, o], [c, d]] = scaling;
     let x = math::at(b, 0);
     if k == 1 {
         return [x + a * n.z0, 0.0];
@@ -130,186 +99,122 @@ fn moved(k: usize, a: f64, o: f64, c: f64, d: f64, n: Node, b: &[f64]) -> [f64; 
 }
 
 // A node's term.
-fn term(sigma2: f64, rss_hat: f64, pen_hat: f64, log_w: f64, rss: f64, pen: f64) -> f64
-    ensures { result ≡ term_of sigma2 rss_hat pen_hat log_w rss pen }
+#[tactic(auto, using(crate::proofs::Laws::negative_half), unfolding(crate::specs::Agq::term_of))]
+fn term(sigma2: f64, hat: Misfit, log_w: f64, node: Misfit) -> f64
+    ensures { result ≡ term_of sigma2 hat.rss hat.pen log_w node.rss node.pen }
 {
-    let rss_diff = (rss - rss_hat) / sigma2;
-    let delta = -0.5 * rss_diff - 0.5 * (pen - pen_hat);
+    let rss_diff = (node.rss - hat.rss) / sigma2;
+    let delta = -0.5 * rss_diff - 0.5 * (node.pen - hat.pen);
     log_w + delta
 }
 
-fn node_count(k: usize, order: usize) -> usize
-    requires { order ≤ 11 }
-    ensures { result ≡ nodes_of k order }
-{
-    if k == 1 {
-        return order;
-    }
-    order * order
+// The rule that is taken, of `order` points in each dimension, at an estimate with its sigma2.
+#[derive(Clone, Copy)]
+struct Quadrature<'a> {
+    at: Estimate<'a>,
+    sigma2: f64,
+    order: usize,
+    ghost least: { 1 ≤ order },
+    ghost most: { order ≤ 11 },
 }
 
-// The terms of a group's nodes, in the first places. At b the rss is rss_hat and the penalty pen_hat.
-fn terms(
-    code: u64,
-    values: [f64; 4],
-    effects: &[usize],
-    theta: &[f64],
-    sigma2: f64,
-    doses: &[f64],
-    grams: &[f64],
-    b: &[f64],
-    order: usize,
-    a: f64,
-    o: f64,
-    c: f64,
-    d: f64,
-) -> [f64; 121]
-    requires { (length grams.now ≡ length doses.now) × ((1 ≤ order) × (order ≤ 11)) }
-    ensures { take (nodes_of (length effects.now) order) result ≡ terms_of code effects.now values theta.now sigma2 doses.now grams.now b.now order a o c d }
-{
-    let k = effects.len();
-    let rss_hat = group_squares(code, values, effects, b, doses, grams);
-    let pen_hat = re_penalty(k, theta, b);
-    let count = node_count(k, order);
-    let mut out = [0.0; 121];
-    let mut t = 0usize;
-    while t < count {
-        let n = node_at(k, order, t);
-        let v = moved(k, a, o, c, d, n, b);
-        let rss = group_squares(code, values, effects, &v, doses, grams);
-        let pen = re_penalty(k, theta, &v);
-        out[t] = term(sigma2, rss_hat, pen_hat, n.log_w, rss, pen);
-        t += 1;
+impl Quadrature<'_> {
+    fn misfit(&self, group: &Group<'_>) -> Misfit
+        ensures rss { result.rss ≡ group_squares (checked self.now.at.problem) self.now.at.values group.now.b.now group.now.doses.now group.now.grams.now }
+        ensures pen { result.pen ≡ penalty_of (length self.now.at.problem.effects.now) self.now.at.problem.theta.now group.now.b.now }
+    {
+        let q = &self.at.problem;
+        Misfit {
+            rss: self.at.squares(group),
+            pen: re_penalty(q.effects.len(), q.theta, group.b),
+        }
     }
-    out
-}
 
-// The sum so far, with a group's; readings that are none add nothing.
-fn add_group(
-    code: u64,
-    values: [f64; 4],
-    effects: &[usize],
-    theta: &[f64],
-    sigma2: f64,
-    doses: &[f64],
-    grams: &[f64],
-    b: &[f64],
-    order: usize,
-    total: f64,
-) -> Correction
-    requires { Effects effects.now × ((length grams.now ≡ length doses.now) × ((1 ≤ order) × (order ≤ 11))) }
-    ensures { result ≡ add_group code effects.now values theta.now sigma2 doses.now grams.now b.now order total }
-{
-    if doses.len() == 0 {
-        return Correction::Added(total);
+    // The terms of a group's nodes.
+    #[tactic(auto, using(crate::proofs::Laws::nodes_few, math::specs::laws::Loops::iter_next), unfolding(crate::specs::Agq::terms_of, math::specs::Loops::iter))]
+    fn terms(&self, group: &Group<'_>, scaling: [[f64; 2]; 2]) -> Filled<NODES>
+        ensures { result ≡ terms_of (checked self.now.at.problem) self.now.at.values self.now.sigma2 self.now.order
+            group.now.doses.now group.now.grams.now group.now.b.now scaling }
+    {
+        let k = self.at.problem.effects.len();
+        let hat = self.misfit(group);
+        let mut terms = Filled::new();
+        for t in 0..node_count(k, self.order) {
+            let n = node_at(k, self.order, t);
+            let b = moved(k, scaling, n, group.b);
+            let node = self.misfit(&Group {
+                doses: group.doses,
+                grams: group.grams,
+                b: &b,
+            });
+            terms.push(term(self.sigma2, hat, n.log_w, node));
+        }
+        terms
     }
-    let k = effects.len();
-    let first = sigma_inv_from_theta(k, theta);
-    let m = curvature(code, values, effects, sigma2, b, doses, first);
-    let Matrix::Entries(a, o, c, d) = scaling(k, m) else {
-        return Correction::None;
-    };
-    let out = terms(
-        code, values, effects, theta, sigma2, doses, grams, b, order, a, o, c, d,
-    );
-    let n = node_count(k, order);
-    let inner = log_sum_exp(&out[..n]);
-    if math::is_finite(inner) {
-        return Correction::Added(total + -2.0 * inner);
+
+    // The sum so far, with a group's; readings that are none add nothing.
+    #[tactic(auto, using(crate::proofs::Laws::negative_two), unfolding(crate::specs::Agq::add_group))]
+    fn add_group(&self, group: &Group<'_>, total: f64) -> Option<f64>
+        ensures { result ≡ add_group (checked self.now.at.problem) self.now.at.values self.now.sigma2 self.now.order
+            group.now.doses.now group.now.grams.now group.now.b.now total }
+    {
+        if group.doses.is_empty() {
+            return Some(total);
+        }
+        let q = &self.at.problem;
+        let k = q.effects.len();
+        let sigma2 = self.sigma2;
+        let inverse = sigma_inv_from_theta(k, q.theta);
+        let curvature = self.at.block(group.b, group.doses, inverse, |x| x / sigma2);
+        let terms = self.terms(group, scaling(k, curvature)?);
+        let inner = log_sum_exp(terms.as_slice());
+        if math::is_finite(inner) {
+            Some(total + -2.0 * inner)
+        } else {
+            None
+        }
     }
-    Correction::None
-}
 
-// The sum so far, with that of group g.
-fn group_at(
-    code: u64,
-    values: [f64; 4],
-    effects: &[usize],
-    theta: &[f64],
-    sigma2: f64,
-    doses: &[f64],
-    grams: &[f64],
-    group: &[usize],
-    b: &[f64],
-    order: usize,
-    g: usize,
-    total: f64,
-) -> Correction
-    requires { Lists effects.now doses.now grams.now group.now (g + 1) b.now × ((1 ≤ order) × (order ≤ 11)) }
-    ensures { result ≡ group_at code effects.now values theta.now sigma2 doses.now grams.now group.now b.now order g total }
-{
-    let k = effects.len();
-    let own_doses = own_readings(group, g, doses);
-    let own_grams = own_readings(group, g, grams);
-    let n = group_size(group, g);
-    let from = g * k;
-    add_group(
-        code,
-        values,
-        effects,
-        theta,
-        sigma2,
-        &own_doses[..n],
-        &own_grams[..n],
-        &b[from..from + k],
-        order,
-        total,
-    )
-}
-
-// The groups in order, from 0; none where one of them is.
-fn add_groups(
-    code: u64,
-    values: [f64; 4],
-    effects: &[usize],
-    theta: &[f64],
-    sigma2: f64,
-    doses: &[f64],
-    grams: &[f64],
-    group: &[usize],
-    groups: usize,
-    b: &[f64],
-    order: usize,
-) -> Correction
-    requires { Lists effects.now doses.now grams.now group.now groups b.now × ((1 ≤ order) × (order ≤ 11)) }
-    ensures { result ≡ groups_of code effects.now values theta.now sigma2 doses.now grams.now group.now b.now order groups }
-{
-    let mut total = 0.0;
-    let mut g = 0usize;
-    while g < groups {
-        let r = group_at(
-            code, values, effects, theta, sigma2, doses, grams, group, b, order, g, total,
-        );
-        let Correction::Added(t) = r else {
-            return Correction::None;
+    // The sum so far, with that of group g.
+    #[tactic(auto, using(criterion_groups::specs::laws::Groups::own_as_long), unfolding(crate::specs::Agq::group_at))]
+    fn group(&self, g: usize, total: f64) -> Option<f64>
+        requires { g < self.now.at.problem.groups }
+        ensures { result ≡ group_at (checked self.now.at.problem) self.now.at.values self.now.sigma2 self.now.order self.now.at.b.now g total }
+    {
+        let q = &self.at.problem;
+        let doses = own_readings(q.group, g, q.doses);
+        let grams = own_readings(q.group, g, q.grams);
+        let group = Group {
+            doses: doses.as_slice(),
+            grams: grams.as_slice(),
+            b: self.at.effects(g),
         };
-        total = t;
-        g += 1;
+        self.add_group(&group, total)
     }
-    Correction::Added(total)
+
+    // The groups in order, from 0; none where one of them is.
+    #[tactic(auto, using(linalg::specs::laws::Loops::loops), unfolding(crate::specs::Agq::groups_of))]
+    fn groups(&self) -> Option<f64>
+        ensures { result ≡ groups_of (checked self.now.at.problem) self.now.at.values self.now.sigma2 self.now.order self.now.at.b.now }
+    {
+        let mut total = 0.0;
+        for g in 0..self.at.problem.groups {
+            total = self.group(g, total)?;
+        }
+        Some(total)
+    }
 }
 
 // Where no rule applies, or a group has no scaling or no finite sum, there is none.
-pub fn agq_correction(
-    code: u64,
-    values: [f64; 4],
-    effects: &[usize],
-    theta: &[f64],
-    sigma2: f64,
-    doses: &[f64],
-    grams: &[f64],
-    group: &[usize],
-    groups: usize,
-    b: &[f64],
-    n_agq: u64,
-) -> Correction
-    requires { Lists effects.now doses.now grams.now group.now groups b.now }
-    ensures { result ≡ agq_of code effects.now values theta.now sigma2 doses.now grams.now group.now b.now groups n_agq }
+#[tactic(auto, using(crate::proofs::Laws::order_few), unfolding(crate::specs::Agq::agq_of))]
+pub fn agq_correction(at: &Estimate<'_>, sigma2: f64, n_agq: u64) -> Option<f64>
+    ensures { result ≡ agq_of (checked at.now.problem) at.now.values at.now.b.now sigma2 n_agq }
 {
-    let Order::Points(order) = resolve_gh_order_product(n_agq, effects.len()) else {
-        return Correction::None;
+    let order = resolve_gh_order_product(n_agq, at.problem.effects.len())?;
+    let rule = Quadrature {
+        at: *at,
+        sigma2,
+        order,
     };
-    add_groups(
-        code, values, effects, theta, sigma2, doses, grams, group, groups, b, order,
-    )
+    rule.groups()
 }

@@ -1,25 +1,17 @@
 -- What the determinant and the quadrature work out group by group: a group's own readings, and their sums at effects b.
-use Rattle.std.specs.Prelude.{ℕ, ◌+◌, ◌*◌, ◌≤◌, cond, List, [], ◌∷◌, ◌++◌, pos, eqb, Float, get_or, length}
+use Rattle.std.specs.Prelude.{ℕ, cond, List, [], ◌∷◌, ◌++◌, pos, eqb, Float, get_or, length}
 use Rattle.std.specs.Float.{nan, binary64}
 use Rattle.std.specs.Float.Ieee.{of_int}
 use Rattle.math.specs.Basic.{add, sub, mul, zero}
 use Rattle.math.specs.Loops.{iter}
+use Rattle.math.specs.Matrix.{rows, entry}
 use Rattle.curves.specs.declared.Mean.{Mean}
 use Rattle.curves.specs.MeanFn.{eval_with_re_of}
+use Rattle.fit_refusals.specs.Problem.{Problem}
 use Rattle.fit_penalized.specs.Normal.{random_gradients}
-use Rattle.fit_step.specs.Sized.{Effects}
-
--- the sizes that the functions over groups ask for: a problem without fault has them, with b of groups times k places
-pub record Lists (effects : List ℕ) (doses grams : List Float) (group : List ℕ) (groups : ℕ) (b : List Float) : Type 0 where
-  pub slots : Effects effects
-  pub many : length group ≤ 512
-  pub doses_each : length group ≤ length doses
-  pub grams_each : length group ≤ length grams
-  pub few : groups ≤ 32
-  pub places : groups * length effects ≤ length b
 
 -- a count as a float
-unfoldable pub count_of : ℕ → Float
+abbrev pub count_of : ℕ → Float
 count_of n = of_int binary64 (pos n)
 
 -- `group_obs`: what the list l has at the readings of group g, in reading order
@@ -29,25 +21,15 @@ own_at group g l i own = cond (eqb (get_or group i 0) g) (own ++ (get_or l i nan
 unfoldable pub own_of : List ℕ → ℕ → List Float → List Float
 own_of group g l = iter (own_at group g l) (length group) []
 
--- how many readings group g has
-abbrev pub next_place : ℕ → ℕ → ℕ → ℕ
-next_place g h n = cond (eqb h g) (n + 1) n
-
-abbrev pub size_at : List ℕ → ℕ → ℕ → ℕ → ℕ
-size_at group g i n = next_place g (get_or group i 0) n
-
-unfoldable pub size_of : List ℕ → ℕ → ℕ
-size_of group g = iter (size_at group g) (length group) 0
-
 -- at the curve values of a list, with effects b
-module _ (code : ℕ) (effects : List ℕ) (values b : List Float) where
+module _ (q : Problem) (values b : List Float) where
   -- the curve at dose x
   abbrev pub curve_at : Float → Mean
-  curve_at x = eval_with_re_of code values effects b x
+  curve_at x = eval_with_re_of q.code values q.effects b x
 
   -- its gradients by the effects; for one effect the second is +0
   unfoldable pub gradients_at : Float → List Float
-  gradients_at x = random_gradients effects (curve_at x)
+  gradients_at x = random_gradients q.effects (curve_at x)
 
   -- the rss of some readings: the squares in their order, from 0
   abbrev pub residual_at : List Float → List Float → ℕ → Float
@@ -58,3 +40,18 @@ module _ (code : ℕ) (effects : List ℕ) (values b : List Float) where
 
   unfoldable pub group_squares : List Float → List Float → Float
   group_squares doses grams = iter (square_at doses grams) (length doses) zero
+
+-- a block of two rows of two with the products of the gradients d added, each as f leaves it
+unfoldable pub add_by : (Float → Float) → List (List Float) → List Float → List (List Float)
+add_by f m d =
+    let u = get_or d 0 nan in
+    let v = get_or d 1 nan in
+    rows (add (entry m 0 0) (f (mul u u))) (add (entry m 0 1) (f (mul u v))) (add (entry m 1 0) (f (mul v u))) (add (entry m 1 1) (f (mul v v)))
+
+-- of readings at effects b, from the block m on
+module _ (f : Float → Float) (q : Problem) (values b doses : List Float) where
+  abbrev pub block_at : ℕ → List (List Float) → List (List Float)
+  block_at i m = add_by f m (gradients_at q values b (get_or doses i nan))
+
+  unfoldable pub block_by : List (List Float) → List (List Float)
+  block_by m = iter block_at (length doses) m

@@ -1,91 +1,154 @@
 // What the determinant and the quadrature both work out group by group: a group's own readings (fit.rs:
-// `group_obs`), their gradients and their sums at effects b. Counts as floats are here too.
+// `group_obs`), their gradients and their sums at effects b.
 #![tactic(auto)]
 
-ghost use Rattle.std.specs.Prelude.{◌≡◌, ◌≤◌, length, take};
-ghost use Rattle.fit_step.specs.Sized.{Effects};
-ghost use Rattle.criterion_groups.specs.Groups.{count_of, own_of, next_place, size_of, gradients_at, group_squares};
+ghost use Rattle.std.specs.Prelude.{◌≡◌, ◌≤◌, ◌<◌, ◌*◌, ◌++◌, List, [], ◌∷◌, Float, length, take};
+ghost use Rattle.math.specs.Parts.{part};
+ghost use Rattle.fit_refusals.specs.Given.{checked};
+ghost use Rattle.criterion_groups.specs.Groups.{own_of, curve_at, gradients_at, group_squares, block_by};
 
-use curves::mean_fn::eval_mean_with_re;
+use curves::Mean;
 use fit_penalized::normal::random_gradients;
+use fit_refusals::NlmmProblem;
+use std::marker::Model;
 
-// A count as a float.
-pub fn count(n: usize) -> f64
-    requires { n ≤ 1000 }
-    ensures { result ≡ count_of n }
-{
-    (n as u32) as f64
+// The numbers so far of a list with N places.
+#[derive(Drop)]
+pub struct Filled<const N: usize> {
+    places: [f64; N],
+    len: usize,
 }
 
-fn next_place(g: usize, h: usize, n: usize) -> usize
-    requires { n ≤ 512 }
-    ensures { result ≡ next_place g h n }
-{
-    if h == g {
-        return n + 1;
+impl<const N: usize> Model for Filled<N> {
+    ghost Value = { List Float };
+
+    ghost view = { λ l. take l.len l.places };
+
+    ghost invariant = { λ l. l.len ≤ N };
+}
+
+impl<const N: usize> Filled<N> {
+    pub fn new() -> Self
+        ensures { result ≡ [] }
+    {
+        Filled {
+            places: [0.0; N],
+            len: 0,
+        }
     }
-    n
-}
 
-// How many readings group g has.
-pub fn group_size(group: &[usize], g: usize) -> usize
-    requires { length group.now ≤ 512 }
-    ensures { result ≡ size_of group.now g }
-{
-    let mut n = 0usize;
-    let mut i = 0usize;
-    while i < group.len() {
-        n = next_place(g, group[i], n);
-        i += 1;
+    #[tactic(auto, using(crate::proofs::Laws::more_taken))]
+    pub fn push(&mut self, x: f64)
+        requires { length self.old < N }
+        ensures { self.new ≡ self.old ++ x ∷ [] }
+    {
+        self.places[self.len] = x;
+        self.len += 1;
     }
-    n
+
+    pub fn as_slice(&self) -> &[f64]
+        ensures { result.now ≡ self.now }
+    {
+        &self.places[..self.len]
+    }
 }
 
-// What the list has at the readings of group g, in the first places. Each element is written at the next
-// free place, which the next one takes where the reading is another group's.
-pub fn own_readings(group: &[usize], g: usize, list: &[f64]) -> [f64; 512]
-    requires { (length group.now ≤ 512) × (length group.now ≤ length list.now) }
-    ensures { take (size_of group.now g) result ≡ own_of group.now g list.now }
+// The most readings that there are.
+const READINGS: usize = 512;
+
+// What a list has at the readings of group g, in their order.
+#[tactic(auto, using(math::specs::laws::Loops::iter_next), unfolding(crate::specs::Groups::own_of, math::specs::Loops::iter))]
+pub fn own_readings(group: &[usize], g: usize, list: &[f64]) -> Filled<READINGS>
+    requires many { length group.now ≤ 512 }
+    requires each { length group.now ≤ length list.now }
+    ensures { result ≡ own_of group.now g list.now }
 {
-    let mut own = [0.0; 512];
-    let mut n = 0usize;
-    let mut i = 0usize;
-    while i < group.len() {
-        own[n] = list[i];
-        n = next_place(g, group[i], n);
-        i += 1;
+    let mut own = Filled::new();
+    for (i, h) in group.iter().enumerate() {
+        if *h == g {
+            own.push(list[i]);
+        }
     }
     own
 }
 
-// The gradients by the effects at dose x; for one effect the second is +0.
-pub fn gradients(code: u64, values: [f64; 4], effects: &[usize], b: &[f64], x: f64) -> [f64; 2]
-    requires { Effects effects.now }
-    ensures { result ≡ gradients_at code effects.now values b.now x }
-{
-    let y = eval_mean_with_re(code, x, values, effects, b);
-    random_gradients(effects, y)
+// A problem's curve values and its effects b, group after group, as a fit leaves them.
+#[derive(Clone, Copy)]
+pub struct Estimate<'a> {
+    pub problem: NlmmProblem<'a>,
+    pub values: [f64; 4],
+    pub b: &'a [f64],
+    pub ghost places: { length b.now ≡ problem.groups * length problem.effects.now },
 }
 
-// The rss of some readings at effects b.
-pub fn group_squares(
-    code: u64,
-    values: [f64; 4],
-    effects: &[usize],
-    b: &[f64],
-    doses: &[f64],
-    grams: &[f64],
-) -> f64
-    requires { length grams.now ≡ length doses.now }
-    ensures { result ≡ group_squares code effects.now values b.now doses.now grams.now }
-{
-    let mut t = 0.0;
-    let mut i = 0usize;
-    while i < doses.len() {
-        let y = eval_mean_with_re(code, doses[i], values, effects, b);
-        let r = grams[i] - y.mu;
-        t = t + r * r;
-        i += 1;
+// A group's own readings, and its effects.
+#[derive(Clone, Copy)]
+pub struct Group<'a> {
+    pub doses: &'a [f64],
+    pub grams: &'a [f64],
+    pub b: &'a [f64],
+    pub ghost each: { length grams.now ≡ length doses.now },
+}
+
+impl Estimate<'_> {
+    // The effects of group g.
+    pub fn effects(&self, g: usize) -> &[f64]
+        requires { g < self.now.problem.groups }
+        ensures { result.now ≡ part (g * length self.now.problem.effects.now) (length self.now.problem.effects.now) self.now.b.now }
+    {
+        let k = self.problem.effects.len();
+        &self.b[g * k..g * k + k]
     }
-    t
+
+    // The curve at dose x, with effects b.
+    fn curve(&self, b: &[f64], x: f64) -> Mean
+        ensures { result ≡ curve_at (checked self.now.problem) self.now.values b.now x }
+    {
+        let q = &self.problem;
+        q.curve.eval_mean_with_re(x, self.values, q.effects, b)
+    }
+
+    // Its gradients by the effects; for one effect the second is +0.
+    #[tactic(auto, unfolding(crate::specs::Groups::gradients_at))]
+    pub fn gradients(&self, b: &[f64], x: f64) -> [f64; 2]
+        ensures { result ≡ gradients_at (checked self.now.problem) self.now.values b.now x }
+    {
+        random_gradients(&self.problem, self.curve(b, x))
+    }
+
+    // The rss of a group's readings at its effects.
+    #[tactic(auto, using(math::specs::laws::Loops::turns), unfolding(crate::specs::Groups::group_squares))]
+    pub fn squares(&self, group: &Group<'_>) -> f64
+        ensures { result ≡ group_squares (checked self.now.problem) self.now.values group.now.b.now group.now.doses.now group.now.grams.now }
+    {
+        let mut sum = 0.0;
+        for (x, gram) in group.doses.iter().zip(group.grams) {
+            let r = gram - self.curve(group.b, *x).mu;
+            sum += r * r;
+        }
+        sum
+    }
+
+    // The block m with the products of the gradients at each dose added, each as `each` leaves it.
+    #[tactic(auto, using(math::specs::laws::Loops::turns), unfolding(crate::specs::Groups::block_by, crate::specs::Groups::add_by))]
+    pub fn block<F: Fn(f64) -> f64>(
+        &self,
+        b: &[f64],
+        doses: &[f64],
+        m: [[f64; 2]; 2],
+        each: F,
+    ) -> [[f64; 2]; 2]
+        requires { F.IsAlwaysCallable each }
+        ensures { (f : Float → Float) → ((x y : Float) → F.post each x y → y ≡ f x) → result ≡ block_by f (checked self.now.problem) self.now.values b.now doses.now m }
+    {
+        let mut sum = m;
+        for x in doses {
+            let [u, v] = self.gradients(b, *x);
+            sum = [
+                [sum[0][0] + each(u * u), sum[0][1] + each(u * v)],
+                [sum[1][0] + each(v * u), sum[1][1] + each(v * v)],
+            ];
+        }
+        sum
+    }
 }

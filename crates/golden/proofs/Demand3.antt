@@ -31,8 +31,8 @@ narrow_at n s e I = wide_false (row 26) s (lit≤ tt) row_narrow (subst (λ (i :
 
 -- every theta that is asked is finite
 new_finite : (t : Bool) (r : Row) (s : Bracket) (p : Float) → Inv r (cond t (left_part s p nan) (right_part s p nan)) → is_finite p ≡ true
-new_finite true r s p I = finite_at p I.2 I.6
-new_finite false r s p I = finite_at p I.3 I.7
+new_finite true r s p I = finite_at p I.c I.c_is
+new_finite false r s p I = finite_at p I.d I.d_is
 
 pub point_finite : (n : ℕ) (s : Bracket) → n < 26 → Inv (row n) s → is_finite (new_point s) ≡ true
 unfolding narrowed

@@ -4,4 +4,3 @@ mod Table
 mod Points
 pub mod Demand3
 mod Loop
-mod Call

@@ -1,15 +1,14 @@
 -- The search over theta: the public operation.
-use Rattle.std.specs.Prelude.{ℕ, ◌*◌, ◌≡◌, Bool, true, cond, ◌&&◌, List, eqb, ltb, Float}
-use Rattle.std.proofs.Math.Option.{Option, none, some}
+use Rattle.std.specs.Prelude.{ℕ, ◌*◌, ◌≡◌, Bool, true, cond, List, eqb, Float, Option, Some, None, Result, Ok, Err}
 use Rattle.math.specs.Basic.{is_finite}
+use Rattle.refusal.specs.declared.Refusal.{Refusal}
+use Rattle.refusal.specs.Refusal.{number_of}
 use Rattle.fit_refusals.specs.Problem.{Problem, p, k, at_theta}
-use Rattle.fit_refusals.specs.Faults.{refusal_of, search_refusal_of}
+use Rattle.fit_refusals.specs.Faults.{search_refusal_of}
+use Rattle.fit_refusals.specs.Valid.{ValidFit}
 use Rattle.criterion.specs.Answer.{profile_of}
-use Rattle.golden.specs.declared.Bracket.{Bracket}
 use Rattle.golden.specs.declared.Found.{Found}
-use Rattle.golden.specs.declared.Answer.{Answer}
-use Rattle.golden.specs.declared.Answer.TheVariants.{Refused, Done}
-use Rattle.golden.specs.Golden.{is_wide, golden_by, answers_by}
+use Rattle.golden.specs.Golden.{golden_by, answers_by}
 
 -- the criterion at theta t, from the given start
 unfoldable pub criterion_at : Problem → ℕ → Bool → ℕ → Float → Float
@@ -27,23 +26,19 @@ unfoldable pub answers_of : Problem → ℕ → Bool → ℕ → ℕ → List Fl
 answers_of q rounds reml nAgq allowed = answers_by (asks q rounds reml nAgq) allowed
 
 -- no criterion at a finite theta is refused, given room for its lists
-abbrev pub NeverRefused : Problem → ℕ → Type 0
-NeverRefused q rounds = (t : Float) → is_finite t ≡ true → refusal_of (at_theta q t) (p q) (q.groups * k q) rounds ≡ 0
-
--- another narrowing is to be made
-unfoldable pub goes_on : Bracket → ℕ → ℕ → Bool
-goes_on s made allowed = is_wide s && ltb made allowed
+abbrev pub AlwaysFits : Problem → ℕ → Type 0
+AlwaysFits q rounds = (t : Float) → is_finite t ≡ true → ValidFit (at_theta q t) (p q) (q.groups * k q) rounds
 
 -- a call's number, 0 where it is not refused; then what it answers
 pub record Told : Type 0 where
   pub number : ℕ
   pub found : Option Found
 
-unfoldable pub told : Answer → Told
-told (Refused n) = record { number = n; found = none }
-told (Done f) = record { number = 0; found = some f }
+abbrev pub told : Result Found Refusal → Told
+told (Err e) = record { number = number_of e; found = None }
+told (Ok f) = record { number = 0; found = Some f }
 
-unfoldable pub call_of : Problem → ℕ → Bool → ℕ → ℕ → Told
+abbrev pub call_of : Problem → ℕ → Bool → ℕ → ℕ → Told
 call_of q rounds reml nAgq allowed =
     let n = search_refusal_of q rounds allowed in
-    cond (eqb n 0) (record { number = 0; found = some (search_of q rounds reml nAgq allowed) }) (record { number = n; found = none })
+    cond (eqb n 0) (record { number = 0; found = Some (search_of q rounds reml nAgq allowed) }) (record { number = n; found = None })

@@ -1,15 +1,18 @@
 // The search over theta (`optimize_theta_golden`).
 #![tactic(auto)]
 
-ghost use Rattle.std.specs.Prelude.{◌≡◌, true, []};
-ghost use Rattle.math.specs.Basic.{is_finite};
-ghost use Rattle.fit_refusals.specs.Problem.{problem_of};
-ghost use Rattle.golden.specs.Golden.{factor, left_point, right_point, keeps_left, new_point, narrowed, theta_of, converged_of};
-ghost use Rattle.golden.specs.Search.{criterion_at, search_of, NeverRefused, goes_on, told, call_of};
+mod asked;
 
-use criterion::criterion;
-use curves::mean_fn::n_params;
-use fit_refusals::search_fault;
+ghost use Rattle.std.specs.Prelude.{◌≡◌, true, Float};
+ghost use Rattle.math.specs.Basic.{is_finite};
+ghost use Rattle.fit_refusals.specs.Given.{given};
+ghost use Rattle.golden.specs.Golden.{factor, left_point, right_point, is_wide, keeps_left, new_point, narrowed, theta_of, converged_of, golden_by};
+ghost use Rattle.golden.specs.Demand3.{Demand3};
+ghost use Rattle.golden.specs.Search.{told, call_of};
+
+use crate::asked::Asked;
+use fit_refusals::Problem;
+use refusal::Refusal;
 
 // The ends of the bracket, its inner points and the criterion at each of these.
 #[derive(Clone, Copy)]
@@ -32,328 +35,161 @@ pub struct Found {
     pub fits: u64,
 }
 
-#[derive(Clone, Copy)]
-pub enum Answer {
-    Refused(u64),
-    Done(Found),
-}
+// Where the search begins and ends, and the width of a bracket that is narrow enough.
+const START: f64 = 0.2;
 
+const END: f64 = 20.0;
+
+const TOLERANCE: f64 = 1e-4;
+
+#[tactic(auto, unfolding(crate::specs::Golden::factor))]
 fn golden_factor() -> f64
     ensures { result ≡ factor }
 {
     (1.0 + math::sqrt::sqrt(5.0)) / 2.0
 }
 
+// The inner points of the bracket from a to b.
+#[tactic(auto, unfolding(crate::specs::Golden::left_point))]
 fn left_point(a: f64, b: f64) -> f64
     ensures { result ≡ left_point a b }
 {
     b - (b - a) / golden_factor()
 }
 
+#[tactic(auto, unfolding(crate::specs::Golden::right_point))]
 fn right_point(a: f64, b: f64) -> f64
     ensures { result ≡ right_point a b }
 {
     a + (b - a) / golden_factor()
 }
 
-fn goes_on(s: Bracket, made: u64, allowed: u64) -> bool
-    ensures { result ≡ goes_on s made allowed }
-{
-    if math::abs(s.b - s.a) > 1e-4 {
-        return made < allowed;
+impl Bracket {
+    #[tactic(auto, unfolding(crate::specs::Golden::is_wide))]
+    fn is_wide(self) -> bool
+        ensures { result ≡ is_wide self }
+    {
+        math::abs(self.b - self.a) > TOLERANCE
     }
-    false
-}
 
-// The left part is kept where its criterion is strictly lower.
-fn keeps_left(s: Bracket) -> bool
-    ensures { result ≡ keeps_left s }
-{
-    s.fc < s.fd
-}
-
-// The inner point that a narrowing adds.
-fn new_point(s: Bracket) -> f64
-    ensures { result ≡ new_point s }
-{
-    if keeps_left(s) {
-        return left_point(s.a, s.d);
+    // The left part is kept where its criterion is strictly lower.
+    fn keeps_left(self) -> bool
+        ensures { result ≡ keeps_left self }
+    {
+        self.fc < self.fd
     }
-    right_point(s.c, s.b)
-}
 
-// A narrowing: t is the new point, x the criterion there.
-fn narrow(s: Bracket, t: f64, x: f64) -> Bracket
-    ensures { result ≡ narrowed s t x }
-{
-    if keeps_left(s) {
-        return Bracket {
-            a: s.a,
-            b: s.d,
-            c: t,
-            d: s.c,
-            fc: x,
-            fd: s.fc,
-        };
+    // The inner point that a narrowing adds.
+    #[tactic(auto, unfolding(crate::specs::Golden::new_point))]
+    fn new_point(self) -> f64
+        ensures { result ≡ new_point self }
+    {
+        if self.keeps_left() {
+            left_point(self.a, self.d)
+        } else {
+            right_point(self.c, self.b)
+        }
     }
-    Bracket {
-        a: s.c,
-        b: s.b,
-        c: s.d,
-        d: t,
-        fc: s.fd,
-        fd: x,
+
+    // A narrowing: t is the new point, x the criterion there.
+    #[tactic(auto, unfolding(crate::specs::Golden::narrowed))]
+    fn narrowed(self, t: f64, x: f64) -> Bracket
+        ensures { result ≡ narrowed self t x }
+    {
+        let s = self;
+        if s.keeps_left() {
+            Bracket {
+                a: s.a,
+                b: s.d,
+                c: t,
+                d: s.c,
+                fc: x,
+                fd: s.fc,
+            }
+        } else {
+            Bracket {
+                a: s.c,
+                b: s.b,
+                c: s.d,
+                d: t,
+                fc: s.fd,
+                fd: x,
+            }
+        }
     }
-}
 
-fn middle(s: Bracket) -> f64
-    ensures { result ≡ theta_of s }
-{
-    (s.a + s.b) / 2.0
-}
-
-fn has_converged(s: Bracket, x: f64) -> bool
-    ensures { result ≡ converged_of s x }
-{
-    if math::abs(s.b - s.a) <= 1e-4 {
-        return math::is_finite(x);
+    // Half the sum of the ends.
+    #[tactic(auto, unfolding(crate::specs::Golden::theta_of))]
+    fn middle(self) -> f64
+        ensures { result ≡ theta_of self }
+    {
+        (self.a + self.b) / 2.0
     }
-    false
-}
 
-// The criterion at theta t, whose lists are not kept.
-fn criterion_at(
-    code: u64,
-    doses: &[f64],
-    grams: &[f64],
-    group: &[usize],
-    groups: usize,
-    effects: &[usize],
-    starts: &[f64],
-    lower: &[f64],
-    upper: &[f64],
-    group_lower: &[f64],
-    group_upper: &[f64],
-    max_rounds: u64,
-    reml: bool,
-    n_agq: u64,
-    t: f64,
-) -> f64
-    requires { NeverRefused (problem_of code doses.now grams.now group.now groups effects.now
-        starts.now lower.now upper.now group_lower.now group_upper.now [])
-        max_rounds
-        × (is_finite t ≡ true) }
-    ensures { result ≡ criterion_at (problem_of code doses.now grams.now group.now groups effects.now
-        starts.now lower.now upper.now group_lower.now group_upper.now [])
-        max_rounds reml n_agq t }
-{
-    let theta = [t];
-    let mut values = [0.0; 4];
-    let mut room = [0.0; 64];
-    let p = n_params(code);
-    let n = groups * effects.len();
-    let a = criterion(
-        code,
-        doses,
-        grams,
-        group,
-        groups,
-        effects,
-        starts,
-        lower,
-        upper,
-        group_lower,
-        group_upper,
-        &theta,
-        max_rounds,
-        reml,
-        n_agq,
-        &mut values[0..p],
-        &mut room[0..n],
-    );
-    match a {
-        criterion::Answer::Refused(_) => 0.0 / 0.0,
-        criterion::Answer::Done(f) => f.criterion,
+    // Narrow enough, with a finite criterion at theta.
+    #[tactic(auto, unfolding(crate::specs::Golden::converged_of))]
+    fn has_converged(self, last: f64) -> bool
+        ensures { result ≡ converged_of self last }
+    {
+        math::abs(self.b - self.a) <= TOLERANCE && math::is_finite(last)
     }
 }
 
-// The search of a problem without faults: two fits at the first inner points, one after each narrowing, one
-// at theta.
-fn optimize_theta_golden(
-    code: u64,
-    doses: &[f64],
-    grams: &[f64],
-    group: &[usize],
-    groups: usize,
-    effects: &[usize],
-    starts: &[f64],
-    lower: &[f64],
-    upper: &[f64],
-    group_lower: &[f64],
-    group_upper: &[f64],
-    max_rounds: u64,
-    reml: bool,
-    n_agq: u64,
-    allowed: u64,
-) -> Found
-    requires { NeverRefused (problem_of code doses.now grams.now group.now groups effects.now
-        starts.now lower.now upper.now group_lower.now group_upper.now [])
-        max_rounds }
-    ensures { result ≡ search_of (problem_of code doses.now grams.now group.now groups effects.now
-        starts.now lower.now upper.now group_lower.now group_upper.now [])
-        max_rounds reml n_agq allowed }
+// The search, whatever the criterion answers: two fits at the first inner points, one after each narrowing,
+// one at theta.
+fn optimize_theta_golden<F: Fn(f64) -> f64>(criterion: F, allowed: u64) -> Found
+    requires { (t : Float) → is_finite t ≡ true → F.pre criterion t }
+    ensures demand3 { Demand3 allowed result }
+    ensures search { (ask : Float → Float)
+        → ((t x : Float) → is_finite t ≡ true → F.post criterion t x → x ≡ ask t)
+        → result ≡ golden_by (λ i t. ask t) allowed }
 {
-    let c = left_point(0.2, 20.0);
-    let d = right_point(0.2, 20.0);
-    let fc = criterion_at(
-        code,
-        doses,
-        grams,
-        group,
-        groups,
-        effects,
-        starts,
-        lower,
-        upper,
-        group_lower,
-        group_upper,
-        max_rounds,
-        reml,
-        n_agq,
-        c,
-    );
-    let fd = criterion_at(
-        code,
-        doses,
-        grams,
-        group,
-        groups,
-        effects,
-        starts,
-        lower,
-        upper,
-        group_lower,
-        group_upper,
-        max_rounds,
-        reml,
-        n_agq,
-        d,
-    );
+    let c = left_point(START, END);
+    let d = right_point(START, END);
     let mut s = Bracket {
-        a: 0.2,
-        b: 20.0,
-        c: c,
-        d: d,
-        fc: fc,
-        fd: fd,
+        a: START,
+        b: END,
+        c,
+        d,
+        fc: criterion(c),
+        fd: criterion(d),
     };
-    let mut made = 0u64;
+    let mut narrowings = 0u64;
     let mut fits = 2u64;
-    while goes_on(s, made, allowed) {
-        let t = new_point(s);
-        let x = criterion_at(
-            code,
-            doses,
-            grams,
-            group,
-            groups,
-            effects,
-            starts,
-            lower,
-            upper,
-            group_lower,
-            group_upper,
-            max_rounds,
-            reml,
-            n_agq,
-            t,
-        );
-        s = narrow(s, t, x);
-        made += 1;
+    while s.is_wide() && narrowings < allowed {
+        let t = s.new_point();
+        s = s.narrowed(t, criterion(t));
+        narrowings += 1;
         fits += 1;
     }
-    let theta = middle(s);
-    let last = criterion_at(
-        code,
-        doses,
-        grams,
-        group,
-        groups,
-        effects,
-        starts,
-        lower,
-        upper,
-        group_lower,
-        group_upper,
-        max_rounds,
-        reml,
-        n_agq,
-        theta,
-    );
+    let theta = s.middle();
+    let last = criterion(theta);
     Found {
-        theta: theta,
+        theta,
         criterion: last,
-        narrowings: made,
-        converged: has_converged(s, last),
+        narrowings,
+        converged: s.has_converged(last),
         fits: fits + 1,
     }
 }
 
-// Refused by document 01's numbers for a search; else the golden section search from 0.2 to 20.
+// Refused by document 01's numbers for a search; else the golden section search from 0.2 to 20. The
+// problem's theta is not read.
 pub fn search(
-    code: u64,
-    doses: &[f64],
-    grams: &[f64],
-    group: &[usize],
-    groups: usize,
-    effects: &[usize],
-    starts: &[f64],
-    lower: &[f64],
-    upper: &[f64],
-    group_lower: &[f64],
-    group_upper: &[f64],
+    problem: &Problem<'_>,
     max_rounds: u64,
     reml: bool,
     n_agq: u64,
     max_narrowings: u64,
-) -> Answer
-    ensures { told result ≡ call_of (problem_of code doses.now grams.now group.now groups effects.now
-        starts.now lower.now upper.now group_lower.now group_upper.now [])
-        max_rounds reml n_agq max_narrowings }
+) -> Result<Found, Refusal>
+    ensures { told result ≡ call_of (given problem.now) max_rounds reml n_agq max_narrowings }
 {
-    let fault = search_fault(
-        code,
-        doses,
-        grams,
-        group,
-        groups,
-        effects,
-        starts,
-        lower,
-        upper,
-        group_lower,
-        group_upper,
-        max_rounds,
-        max_narrowings,
-    );
-    if fault != 0 {
-        return Answer::Refused(fault);
-    }
-    Answer::Done(optimize_theta_golden(
-        code,
-        doses,
-        grams,
-        group,
-        groups,
-        effects,
-        starts,
-        lower,
-        upper,
-        group_lower,
-        group_upper,
+    let problem = problem.for_search(max_rounds, max_narrowings)?;
+    let asked = Asked {
+        problem,
         max_rounds,
         reml,
         n_agq,
-        max_narrowings,
-    ))
+    };
+    Ok(optimize_theta_golden(|t| asked.criterion(t), max_narrowings))
 }

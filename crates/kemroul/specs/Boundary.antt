@@ -1,6 +1,5 @@
 -- What a caller in C finds: the number that is returned, and what stands behind the pointers afterwards.
-use Rattle.std.specs.Prelude.{ℕ, Bool, cond, List, [], ◌∷◌, Float}
-use Rattle.std.proofs.Math.Option.{Option, none, some}
+use Rattle.std.specs.Prelude.{ℕ, Bool, cond, Option, Some, None, List, [], ◌∷◌, Float}
 use Rattle.fit.specs.declared.Fitted.{Fitted}
 use Rattle.fit.specs.Answer.{Told}
 use Rattle.golden.specs.declared.Found.{Found}
@@ -33,9 +32,9 @@ pub record FitLeft : Type 0 where
 
 -- a refusal has no rss and no counts, and keeps what stood there before
 abbrev pub fitted_or : Option Fitted → ℕ → List Float → List Float → Float → ℕ → ℕ → ℕ → FitLeft
-fitted_or none n values effects rss converged rounds trials =
+fitted_or None n values effects rss converged rounds trials =
     record { number = n; values = values; effects = effects; rss = rss; converged = converged; rounds = rounds; trials = trials }
-fitted_or (some f) n values effects rss converged rounds trials =
+fitted_or (Some f) n values effects rss converged rounds trials =
     record { number = n; values = values; effects = effects; rss = f.rss; converged = flag_of f.converged; rounds = f.rounds; trials = f.trials }
 
 unfoldable pub fit_left : Told → Float → ℕ → ℕ → ℕ → FitLeft
@@ -50,8 +49,8 @@ pub record CriterionLeft : Type 0 where
   pub sigma2 : Float
 
 abbrev pub profile_or : Option Profile → ℕ → List Float → List Float → Float → Float → CriterionLeft
-profile_or none n values effects criterion sigma2 = record { number = n; values = values; effects = effects; criterion = criterion; sigma2 = sigma2 }
-profile_or (some p) n values effects criterion sigma2 = record { number = n; values = values; effects = effects; criterion = p.criterion; sigma2 = p.sigma2 }
+profile_or None n values effects criterion sigma2 = record { number = n; values = values; effects = effects; criterion = criterion; sigma2 = sigma2 }
+profile_or (Some p) n values effects criterion sigma2 = record { number = n; values = values; effects = effects; criterion = p.criterion; sigma2 = p.sigma2 }
 
 unfoldable pub criterion_left : Criterion.Told → Float → Float → CriterionLeft
 criterion_left t criterion sigma2 = profile_or t.profile t.number t.values t.effects criterion sigma2
@@ -66,9 +65,9 @@ pub record SearchLeft : Type 0 where
   pub fits : ℕ
 
 abbrev pub found_or : Option Found → ℕ → Float → Float → ℕ → ℕ → ℕ → SearchLeft
-found_or none n theta criterion narrowings converged fits =
+found_or None n theta criterion narrowings converged fits =
     record { number = n; theta = theta; criterion = criterion; narrowings = narrowings; converged = converged; fits = fits }
-found_or (some f) n theta criterion narrowings converged fits =
+found_or (Some f) n theta criterion narrowings converged fits =
     record { number = n; theta = f.theta; criterion = f.criterion; narrowings = f.narrowings; converged = flag_of f.converged; fits = f.fits }
 
 unfoldable pub search_left : Search.Told → Float → Float → ℕ → ℕ → ℕ → SearchLeft

@@ -9,16 +9,29 @@ ghost use Rattle.criterion.specs.Answer as Criterion;
 ghost use Rattle.golden.specs.Search as Search;
 ghost use Rattle.fit.specs.Answer.{call_of};
 ghost use Rattle.fit_refusals.specs.Problem.{problem_of};
-ghost use Rattle.kemroul.specs.Boundary.{handed, flag_of, fit_left, criterion_left, search_left};
+ghost use Rattle.fit_refusals.specs.Given.{number_in};
+ghost use Rattle.kemroul.specs.Boundary.{handed, fit_left, criterion_left, search_left};
 ghost use Rattle.math.specs.Exp.{exp_of};
 ghost use Rattle.math.specs.Ln.{ln_of};
 ghost use Rattle.math.specs.Sqrt.{sqrt_of};
 
-use criterion::Answer as Profiled;
-use curves::Answer;
-use fit::Answer as Fit;
-use golden::Answer as Searched;
-use self_start::Answer as Started;
+use criterion::criterion as profile;
+use curves::curve;
+use fit::fit;
+use fit_refusals::Problem;
+use golden::search;
+use refusal::Refusal;
+use self_start::self_start;
+
+// What a call is refused with, and 0 where it is not.
+fn number<A: Copy>(answer: Result<A, Refusal>) -> u64
+    ensures { result ≡ number_in answer }
+{
+    match answer {
+        Ok(_) => 0,
+        Err(refusal) => refusal.number(),
+    }
+}
 
 #[unsafe(no_mangle)]
 pub extern "C" fn kemroul_exp(x: f64) -> f64
@@ -48,6 +61,7 @@ pub extern "C" fn kemroul_gh_order(asked: u64) -> u64
     quadrature::orders::gh_order(asked)
 }
 
+#[tactic(auto, unfolding(crate::specs::Boundary::handed, curves::specs::Curve::told))]
 #[unsafe(no_mangle)]
 pub extern "C" fn kemroul_curve(
     code: u64,
@@ -62,18 +76,16 @@ pub extern "C" fn kemroul_curve(
     ensures { handed (curve_of code values.now dose) (mu.old ∷ d0.old ∷ d1.old ∷ d2.old ∷ d3.old ∷ [])
         ≡ (result, mu.new ∷ d0.new ∷ d1.new ∷ d2.new ∷ d3.new ∷ []) }
 {
-    let answer = curves::curve(code, values, dose);
-    match answer {
-        Answer::Refused(n) => n,
-        Answer::Value(m) => {
-            *mu = m.mu;
-            *d0 = m.d0;
-            *d1 = m.d1;
-            *d2 = m.d2;
-            *d3 = m.d3;
-            0
-        }
-    }
+    let curve = curve(code, values, dose);
+    let Ok(m) = curve else {
+        return number(curve);
+    };
+    *mu = m.mu;
+    *d0 = m.d0;
+    *d1 = m.d1;
+    *d2 = m.d2;
+    *d3 = m.d3;
+    0
 }
 
 #[unsafe(no_mangle)]
@@ -81,19 +93,11 @@ pub extern "C" fn kemroul_start(code: u64, doses: &[f64], grams: &[f64], values:
     ensures number { result ≡ fault_of code (length doses.now) (length grams.now) (length values.old) }
     ensures written { values.new ≡ written_of code doses.now grams.now values.old }
 {
-    let answer = self_start::self_start(code, doses, grams, values);
-    match answer {
-        Started::Refused(n) => n,
-        Started::Done => 0,
-    }
+    let started = self_start(code, doses, grams, values);
+    number(started)
 }
 
-fn flag(b: bool) -> u64
-    ensures { result ≡ flag_of b }
-{
-    if b { 1 } else { 0 }
-}
-
+#[tactic(auto, unfolding(crate::specs::Boundary::fit_left, fit::specs::Answer::told))]
 #[unsafe(no_mangle)]
 pub extern "C" fn kemroul_fit(
     code: u64,
@@ -132,7 +136,7 @@ pub extern "C" fn kemroul_fit(
           trials = trials.new;
         } }
 {
-    let answer = fit::fit(
+    let problem = Problem {
         code,
         doses,
         grams,
@@ -145,23 +149,20 @@ pub extern "C" fn kemroul_fit(
         group_lower,
         group_upper,
         theta,
-        max_rounds,
-        values,
-        effects_out,
-    );
-    match answer {
-        Fit::Refused(n) => n,
-        Fit::Done(f) => {
-            *rss = f.rss;
-            *converged = flag(f.converged);
-            *rounds = f.rounds as u64;
-            *trials = f.trials as u64;
-            0
-        }
-    }
+    };
+    let fitted = fit(&problem, max_rounds, values, effects_out);
+    let Ok(f) = fitted else {
+        return number(fitted);
+    };
+    *rss = f.rss;
+    *converged = u64::from(f.converged);
+    *rounds = f.rounds as u64;
+    *trials = f.trials as u64;
+    0
 }
 
 // Any value of reml but 0 counts as 1.
+#[tactic(auto, unfolding(crate::specs::Boundary::criterion_left))]
 #[unsafe(no_mangle)]
 pub extern "C" fn kemroul_criterion(
     code: u64,
@@ -198,7 +199,7 @@ pub extern "C" fn kemroul_criterion(
           sigma2 = sigma2.new;
         } }
 {
-    let answer = criterion::criterion(
+    let problem = Problem {
         code,
         doses,
         grams,
@@ -211,23 +212,18 @@ pub extern "C" fn kemroul_criterion(
         group_lower,
         group_upper,
         theta,
-        max_rounds,
-        reml != 0,
-        n_agq,
-        values,
-        effects_out,
-    );
-    match answer {
-        Profiled::Refused(n) => n,
-        Profiled::Done(p) => {
-            *criterion = p.criterion;
-            *sigma2 = p.sigma2;
-            0
-        }
-    }
+    };
+    let profiled = profile(&problem, max_rounds, reml != 0, n_agq, values, effects_out);
+    let Ok(p) = profiled else {
+        return number(profiled);
+    };
+    *criterion = p.criterion;
+    *sigma2 = p.sigma2;
+    0
 }
 
 // Any value of reml but 0 counts as 1.
+#[tactic(auto, unfolding(crate::specs::Boundary::search_left))]
 #[unsafe(no_mangle)]
 pub extern "C" fn kemroul_search(
     code: u64,
@@ -266,7 +262,7 @@ pub extern "C" fn kemroul_search(
           fits = fits.new;
         } }
 {
-    let answer = golden::search(
+    let problem = Problem {
         code,
         doses,
         grams,
@@ -278,20 +274,16 @@ pub extern "C" fn kemroul_search(
         upper,
         group_lower,
         group_upper,
-        max_rounds,
-        reml != 0,
-        n_agq,
-        max_narrowings,
-    );
-    match answer {
-        Searched::Refused(n) => n,
-        Searched::Done(f) => {
-            *theta = f.theta;
-            *criterion = f.criterion;
-            *narrowings = f.narrowings;
-            *converged = flag(f.converged);
-            *fits = f.fits;
-            0
-        }
-    }
+        theta: &[],
+    };
+    let found = search(&problem, max_rounds, reml != 0, n_agq, max_narrowings);
+    let Ok(f) = found else {
+        return number(found);
+    };
+    *theta = f.theta;
+    *criterion = f.criterion;
+    *narrowings = f.narrowings;
+    *converged = u64::from(f.converged);
+    *fits = f.fits;
+    0
 }

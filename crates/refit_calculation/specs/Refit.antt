@@ -1,16 +1,15 @@
 -- The refit of readings: the start values, the search over theta, then the fit and the criterion at the theta found.
--- Each stage that is refused ends the refit with the library's own number; the lists are then as that stage left them.
-use Rattle.std.specs.Prelude.{ℕ, Bool, false, cond, ◌&&◌, List, [], eqb, ltb, Float, length, get_or, set, replicate}
-use Rattle.std.proofs.Math.Option.{Option, none, some}
+-- Each step that is refused ends the refit with the library's own refusal; the lists are then as that step left them.
+use Rattle.std.specs.Prelude.{ℕ, ◌-◌, Bool, false, cond, ◌&&◌, List, [], ◌∷◌, eqb, ltb, Float, Option, Some, None, Result, Ok, Err, length, get_or, set, replicate}
 use Rattle.std.specs.Float.{nan, inf}
 use Rattle.std.specs.Float.Ieee.{lt, neg}
 use Rattle.math.specs.Basic.{zero}
 use Rattle.math.specs.Ln.{ln_of}
+use Rattle.refusal.specs.declared.Refusal.{Refusal}
+use Rattle.refusal.specs.declared.Refusal.TheVariants.{Code, Readings, Groups, Group, Effects, Lengths, Numbers, Bounds, Outputs, Limits}
 use Rattle.curves.specs.MeanFn.{n_params_of}
 use Rattle.fit_refusals.specs.Problem.{Problem, problem_of, at_theta}
-use Rattle.self_start.specs.Start.{fault_of, answer_of, written_of}
-use Rattle.self_start.specs.declared.Answer as Start
-use Rattle.self_start.specs.declared.Answer.TheVariants as Started
+use Rattle.self_start.specs.Start.{fault_of, written_of}
 use Rattle.fit.specs.declared.Fitted.{Fitted}
 use Rattle.fit.specs.Answer as Fit
 use Rattle.criterion.specs.declared.profile.Profile.{Profile}
@@ -18,6 +17,9 @@ use Rattle.criterion.specs.Answer as Criterion
 use Rattle.golden.specs.declared.Found.{Found}
 use Rattle.golden.specs.Search as Search
 use Rattle.refit_calculation.specs.declared.Answer.{Answer}
+use Rattle.refit_calculation.specs.declared.Refused.{Refused}
+use Rattle.refit_calculation.specs.declared.Step.{Step}
+use Rattle.refit_calculation.specs.declared.Request.{Request}
 
 -- the rounds that a fit and the narrowings that the search are allowed
 abbrev pub rounds : ℕ
@@ -26,59 +28,50 @@ rounds = 200
 abbrev pub narrowings : ℕ
 narrowings = 60
 
+-- what is asked: a curve's code, the readings, the indices of the effects, the criterion's kind and its order, and whether the start values are given
+pub record Asked : Type 0 where
+  pub code : ℕ
+  pub doses : List Float
+  pub grams : List Float
+  pub group : List ℕ
+  pub effects : List ℕ
+  pub reml : Bool
+  pub n_agq : ℕ
+  pub given : Bool
+
+abbrev pub asked_of : ℕ → List Float → List Float → List ℕ → List ℕ → Bool → ℕ → Bool → Asked
+asked_of code doses grams group effects reml n_agq given =
+    record { code = code; doses = doses; grams = grams; group = group; effects = effects; reml = reml; n_agq = n_agq; given = given }
+
+abbrev pub asked : Request → Asked
+asked r = asked_of r.code r.doses.now r.grams.now r.group.now r.effects.now r.reml r.n_agq r.given
+
+-- the step that comes first
+abbrev pub first_of : Asked → Step
+first_of r = cond r.given Step.Search Step.Start
+
 -- what is answered, and the three lent lists as they are left: start values, curve values, effects
 pub record Refitted : Type 0 where
-  pub answer : Answer
+  pub answer : Result Answer Refused
   pub starts : List Float
   pub values : List Float
   pub effects : List Float
 
--- a refusal tells its stage, 1 the start, 2 the search, 3 the fit or the criterion; its number; and whether the self-start's third value had been adjusted
-abbrev pub nothing_but : ℕ → ℕ → Bool → Answer
-nothing_but stage number adjusted =
-    record {
-      stage = stage;
-      refused = number;
-      adjusted = adjusted;
-      theta = zero;
-      criterion = zero;
-      narrowings = 0;
-      fits = 0;
-      found = false;
-      sigma2 = zero;
-      rss = zero;
-      converged = false;
-      rounds = 0;
-      trials = 0;
-    }
+-- the refusals by their numbers, 1 to 10
+abbrev pub refusal_at : ℕ → Refusal
+refusal_at n = get_or (Code ∷ Readings ∷ Groups ∷ Group ∷ Effects ∷ Lengths ∷ Numbers ∷ Bounds ∷ Outputs ∷ Limits ∷ []) (n - 1) Limits
 
--- theta and the criterion are the search's; rss and the counts are the fit's; sigma2 is the criterion's
-abbrev pub all_of : Bool → Found → Fitted → Profile → Answer
-all_of adjusted s f c =
-    record {
-      stage = 0;
-      refused = 0;
-      adjusted = adjusted;
-      theta = s.theta;
-      criterion = s.criterion;
-      narrowings = s.narrowings;
-      fits = s.fits;
-      found = s.converged;
-      sigma2 = c.sigma2;
-      rss = f.rss;
-      converged = f.converged;
-      rounds = f.rounds;
-      trials = f.trials;
-    }
-
-abbrev pub refused_at : ℕ → ℕ → Bool → List Float → List Float → List Float → Refitted
-refused_at stage number adjusted starts values b = record { answer = nothing_but stage number adjusted; starts = starts; values = values; effects = b }
+-- a step is refused by a number; whether the self-start's third value had been adjusted is told too
+abbrev pub refused_at : Step → ℕ → Bool → List Float → List Float → List Float → Refitted
+refused_at step number adjusted starts values b =
+    record { answer = Err (record { step = step; refusal = refusal_at number; adjusted = adjusted }); starts = starts; values = values; effects = b }
 
 -- ---- the criterion at theta, after the fit there: it begins at the start values too, and writes the same lists
 
 abbrev pub criterion_or : Option Profile → Criterion.Told → List Float → Bool → Found → Fitted → Refitted
-criterion_or none t starts adjusted s f = refused_at 3 t.number adjusted starts t.values t.effects
-criterion_or (some c) t starts adjusted s f = record { answer = all_of adjusted s f c; starts = starts; values = t.values; effects = t.effects }
+criterion_or None t starts adjusted s f = refused_at Step.Fit t.number adjusted starts t.values t.effects
+criterion_or (Some c) t starts adjusted s f =
+    record { answer = Ok (record { adjusted = adjusted; search = s; fit = f; sigma2 = c.sigma2 }); starts = starts; values = t.values; effects = t.effects }
 
 unfoldable pub with_criterion : Problem → Bool → ℕ → Bool → Found → Fitted → List Float → List Float → Refitted
 with_criterion q reml nAgq adjusted s f values b =
@@ -88,8 +81,8 @@ with_criterion q reml nAgq adjusted s f values b =
 -- ---- the fit at theta
 
 abbrev pub fit_or : Option Fitted → Fit.Told → Problem → Bool → ℕ → Bool → Found → Refitted
-fit_or none t q reml nAgq adjusted s = refused_at 3 t.number adjusted q.starts t.values t.effects
-fit_or (some f) t q reml nAgq adjusted s = with_criterion q reml nAgq adjusted s f t.values t.effects
+fit_or None t q reml nAgq adjusted s = refused_at Step.Fit t.number adjusted q.starts t.values t.effects
+fit_or (Some f) t q reml nAgq adjusted s = with_criterion q reml nAgq adjusted s f t.values t.effects
 
 unfoldable pub with_fit : Problem → Bool → ℕ → Bool → Found → List Float → List Float → Refitted
 with_fit q reml nAgq adjusted s values b =
@@ -99,8 +92,8 @@ with_fit q reml nAgq adjusted s values b =
 -- ---- the search, which writes no list
 
 abbrev pub search_or : Option Found → ℕ → Problem → Bool → ℕ → Bool → List Float → List Float → Refitted
-search_or none n q reml nAgq adjusted values b = refused_at 2 n adjusted q.starts values b
-search_or (some s) n q reml nAgq adjusted values b = with_fit q reml nAgq adjusted s values b
+search_or None n q reml nAgq adjusted values b = refused_at Step.Search n adjusted q.starts values b
+search_or (Some s) n q reml nAgq adjusted values b = with_fit q reml nAgq adjusted s values b
 
 unfoldable pub with_search : Problem → Bool → ℕ → Bool → List Float → List Float → Refitted
 with_search q reml nAgq adjusted values b =
@@ -129,19 +122,17 @@ unbounded code doses grams group groups indices starts =
     problem_of code doses grams group groups indices starts lower upper lower upper []
 
 -- a canister for each effect that is to be written
-unfoldable pub with_starts : ℕ → List Float → List Float → List ℕ → List ℕ → Bool → ℕ → Bool → List Float → List Float → List Float → Refitted
-with_starts code doses grams group indices reml nAgq adjusted starts values b =
-    with_search (unbounded code doses grams group (length b) indices starts) reml nAgq adjusted values b
-
-abbrev pub start_or : Start.Answer → ℕ → List Float → List Float → List ℕ → List ℕ → Bool → ℕ → List Float → List Float → List Float → Refitted
-start_or (Started.Refused n) code doses grams group indices reml nAgq starts values b = refused_at 1 n false starts values b
-start_or Started.Done code doses grams group indices reml nAgq starts values b =
-    with_starts code doses grams group indices reml nAgq (is_adjusted code starts) (adjusted_of code starts) values b
+unfoldable pub with_starts : Asked → Bool → List Float → List Float → List Float → Refitted
+with_starts r adjusted starts values b =
+    with_search (unbounded r.code r.doses r.grams r.group (length b) r.effects starts) r.reml r.n_agq adjusted values b
 
 -- ---- all of it: from given start values, which are taken as they are, or from the self-start's, which leaves the list as it was where it is refused
 
-unfoldable pub refit_of : ℕ → List Float → List Float → List ℕ → List ℕ → Bool → ℕ → Bool → List Float → List Float → List Float → Refitted
-refit_of code doses grams group indices reml nAgq given starts values b =
-    let n = fault_of code (length doses) (length grams) (length starts) in
-    cond given (with_starts code doses grams group indices reml nAgq false starts values b)
-    (start_or (answer_of n) code doses grams group indices reml nAgq (written_of code doses grams starts) values b)
+unfoldable pub self_started : Asked → List Float → List Float → List Float → Refitted
+self_started r starts values b =
+    let n = fault_of r.code (length r.doses) (length r.grams) (length starts) in
+    let l = written_of r.code r.doses r.grams starts in
+    cond (eqb n 0) (with_starts r (is_adjusted r.code l) (adjusted_of r.code l) values b) (refused_at Step.Start n false l values b)
+
+unfoldable pub refit_of : Asked → List Float → List Float → List Float → Refitted
+refit_of r starts values b = cond r.given (with_starts r false starts values b) (self_started r starts values b)

@@ -1,304 +1,214 @@
 // Start values, the search over theta, and the fit and criterion there, with no bounds.
 #![tactic(auto)]
 
-ghost use Rattle.std.specs.Prelude.{◌≡◌, []};
-ghost use Rattle.fit_refusals.specs.Problem.{problem_of};
-ghost use Rattle.refit_calculation.specs.Refit.{nothing_but, with_criterion, with_fit, with_search, is_adjusted, adjusted_of, with_starts, refit_of};
+ghost use Rattle.std.specs.Prelude.{◌≡◌, length};
+ghost use Rattle.curves.specs.MeanFn.{code_of};
+ghost use Rattle.fit_refusals.specs.Given.{given};
+ghost use Rattle.refit_calculation.specs.Refit.{asked, first_of, with_fit, with_search, is_adjusted, adjusted_of, with_starts, refit_of};
 
-use curves::mean_fn::n_params;
-use fit::Fitted;
-use golden::Found;
+use criterion::criterion;
+use curves::Curve;
+use fit::{Fitted, fit};
+use fit_refusals::Problem;
+use golden::{Found, search};
 use math::ln::ln;
+use refusal::Refusal;
+use self_start::self_start;
 
 // The rounds and narrowings that are allowed; `help` tells them.
 pub const ROUNDS: u64 = 200;
 
 pub const NARROWINGS: u64 = 60;
 
-// What was found. Stage 0: all of it; 1 or 2 or 3: the start, the search or the fit was refused by this number.
-// `adjusted`: the self-start's third value was not taken as it is.
+// What is refitted: the readings of a curve's code, with one effect for each canister at each of the indices in
+// `effects`. `given`: the start values that are lent are taken as they are.
 #[derive(Clone, Copy)]
-pub struct Answer {
-    pub stage: u64,
-    pub refused: u64,
-    pub adjusted: bool,
-    pub theta: f64,
-    pub criterion: f64,
-    pub narrowings: u64,
-    pub fits: u64,
-    pub found: bool,
-    pub sigma2: f64,
-    pub rss: f64,
-    pub converged: bool,
-    pub rounds: usize,
-    pub trials: usize,
+pub struct Request<'a> {
+    pub code: u64,
+    pub doses: &'a [f64],
+    pub grams: &'a [f64],
+    pub group: &'a [usize],
+    pub effects: &'a [usize],
+    pub reml: bool,
+    pub n_agq: u64,
+    pub given: bool,
 }
 
-fn nothing(stage: u64, number: u64, adjusted: bool) -> Answer
-    ensures { result ≡ nothing_but stage number adjusted }
-{
-    Answer {
-        stage: stage,
-        refused: number,
-        adjusted: adjusted,
-        theta: 0.0,
-        criterion: 0.0,
-        narrowings: 0,
-        fits: 0,
-        found: false,
-        sigma2: 0.0,
-        rss: 0.0,
-        converged: false,
-        rounds: 0,
-        trials: 0,
+impl Request<'_> {
+    // The step that comes first.
+    fn first_step(&self) -> Step
+        ensures { result ≡ first_of (asked self.now) }
+    {
+        if self.given {
+            Step::Search
+        } else {
+            Step::Start
+        }
+    }
+}
+
+// What was found: theta and the criterion by the search, the rss and the counts by the fit at theta, sigma2 by the
+// criterion there. `adjusted`: the self-start's third value was not taken as it is.
+#[derive(Clone, Copy)]
+pub struct Answer {
+    pub adjusted: bool,
+    pub search: Found,
+    pub fit: Fitted,
+    pub sigma2: f64,
+}
+
+// The step that was refused; the criterion at theta counts to the fit there.
+#[derive(Clone, Copy, Debug, PartialEq, Eq)]
+pub enum Step {
+    Start,
+    Search,
+    Fit,
+}
+
+#[derive(Clone, Copy, Debug, PartialEq, Eq)]
+pub struct Refused {
+    pub step: Step,
+    pub refusal: Refusal,
+    pub adjusted: bool,
+}
+
+impl Step {
+    fn refused(self, refusal: Refusal, adjusted: bool) -> Refused
+        ensures { result ≡ record { step = self; refusal = refusal; adjusted = adjusted } }
+    {
+        Refused {
+            step: self,
+            refusal,
+            adjusted,
+        }
     }
 }
 
 // Two of the self-start's values lead a fit nowhere, and the report says that they were changed. Curve 1's scal is
 // negative for readings that rise, and a trial puts a negative scal at 1e-6: its sign is turned. Curve 2's lrc is the
 // rate ln 2 / xmid, while the curve takes the rate's logarithm: that is put in its place.
-fn adjust(code: u64, starts: &mut [f64]) -> bool
-    ensures { (result ≡ is_adjusted code starts.old) × (starts.new ≡ adjusted_of code starts.old) }
+#[tactic(auto, unfolding(crate::specs::Refit::is_adjusted, crate::specs::Refit::adjusted_of))]
+fn adjust(curve: Curve, starts: &mut [f64]) -> bool
+    ensures adjusted { result ≡ is_adjusted (code_of curve) starts.old }
+    ensures starts { starts.new ≡ adjusted_of (code_of curve) starts.old }
 {
     if starts.len() < 3 {
         return false;
     }
-    if code == 1 {
-        if starts[2] < 0.0 {
-            starts[2] = -starts[2];
-            return true;
+    let x = starts[2];
+    match curve {
+        Curve::Sslogis if x < 0.0 => {
+            starts[2] = -x;
+            true
         }
-        return false;
-    }
-    if code == 2 {
-        if starts[2] > 0.0 {
-            starts[2] = ln(starts[2]);
-            return true;
+        Curve::Ssasymp if x > 0.0 => {
+            starts[2] = ln(x);
+            true
         }
-    }
-    false
-}
-
-// The criterion at theta, after the fit there. Both write the same values and effects.
-fn with_criterion(
-    code: u64,
-    doses: &[f64],
-    grams: &[f64],
-    group: &[usize],
-    groups: usize,
-    effects: &[usize],
-    reml: bool,
-    n_agq: u64,
-    starts: &[f64],
-    lower: &[f64],
-    upper: &[f64],
-    values: &mut [f64],
-    b: &mut [f64],
-    adjusted: bool,
-    found: Found,
-    fitted: Fitted,
-) -> Answer
-    ensures { with_criterion
-        (problem_of code doses.now grams.now group.now groups effects.now
-        starts.now lower.now upper.now lower.now upper.now [])
-        reml n_agq adjusted found fitted values.old b.old
-        ≡ record {
-          answer = result;
-          starts = starts.now;
-          values = values.new;
-          effects = b.new;
-        } }
-{
-    let theta = [found.theta];
-    let answer = criterion::criterion(
-        code, doses, grams, group, groups, effects, starts, lower, upper, lower, upper, &theta,
-        ROUNDS, reml, n_agq, values, b,
-    );
-    match answer {
-        criterion::Answer::Refused(n) => nothing(3, n, adjusted),
-        criterion::Answer::Done(profile) => Answer {
-            stage: 0,
-            refused: 0,
-            adjusted: adjusted,
-            theta: found.theta,
-            criterion: found.criterion,
-            narrowings: found.narrowings,
-            fits: found.fits,
-            found: found.converged,
-            sigma2: profile.sigma2,
-            rss: fitted.rss,
-            converged: fitted.converged,
-            rounds: fitted.rounds,
-            trials: fitted.trials,
-        },
+        _ => false,
     }
 }
 
-// The fit at theta, and then the criterion.
+// The fit and the criterion at the theta that the search found. Both write the same values and effects.
+#[tactic(auto, unfolding(crate::specs::Refit::with_fit, crate::specs::Refit::with_criterion, fit::specs::Answer::told))]
 fn at_theta(
-    code: u64,
-    doses: &[f64],
-    grams: &[f64],
-    group: &[usize],
-    groups: usize,
-    effects: &[usize],
-    reml: bool,
-    n_agq: u64,
-    starts: &[f64],
-    lower: &[f64],
-    upper: &[f64],
-    values: &mut [f64],
-    b: &mut [f64],
+    problem: &Problem<'_>,
+    r: &Request<'_>,
     adjusted: bool,
     found: Found,
-) -> Answer
-    ensures { with_fit
-        (problem_of code doses.now grams.now group.now groups effects.now
-        starts.now lower.now upper.now lower.now upper.now [])
-        reml n_agq adjusted found values.old b.old
-        ≡ record {
-          answer = result;
-          starts = starts.now;
-          values = values.new;
-          effects = b.new;
-        } }
-{
-    let theta = [found.theta];
-    let answer = fit::fit(
-        code, doses, grams, group, groups, effects, starts, lower, upper, lower, upper, &theta,
-        ROUNDS, values, b,
-    );
-    match answer {
-        fit::Answer::Refused(n) => nothing(3, n, adjusted),
-        fit::Answer::Done(fitted) => with_criterion(
-            code, doses, grams, group, groups, effects, reml, n_agq, starts, lower, upper, values,
-            b, adjusted, found, fitted,
-        ),
-    }
-}
-
-// The search, and then what is told at the theta found.
-fn from_starts(
-    code: u64,
-    doses: &[f64],
-    grams: &[f64],
-    group: &[usize],
-    groups: usize,
-    effects: &[usize],
-    reml: bool,
-    n_agq: u64,
-    starts: &[f64],
-    lower: &[f64],
-    upper: &[f64],
     values: &mut [f64],
     b: &mut [f64],
-    adjusted: bool,
-) -> Answer
-    ensures { with_search
-        (problem_of code doses.now grams.now group.now groups effects.now
-        starts.now lower.now upper.now lower.now upper.now [])
-        reml n_agq adjusted values.old b.old
-        ≡ record {
-          answer = result;
-          starts = starts.now;
-          values = values.new;
-          effects = b.new;
-        } }
+) -> Result<Answer, Refused>
+    ensures { with_fit (given problem.now) r.now.reml r.now.n_agq adjusted found values.old b.old
+        ≡ record { answer = result; starts = problem.now.starts.now; values = values.new; effects = b.new } }
 {
-    let answer = golden::search(
-        code, doses, grams, group, groups, effects, starts, lower, upper, lower, upper, ROUNDS,
-        reml, n_agq, NARROWINGS,
-    );
-    match answer {
-        golden::Answer::Refused(n) => nothing(2, n, adjusted),
-        golden::Answer::Done(found) => at_theta(
-            code, doses, grams, group, groups, effects, reml, n_agq, starts, lower, upper, values,
-            b, adjusted, found,
-        ),
-    }
+    let refused = |refusal| Step::Fit.refused(refusal, adjusted);
+    let theta = [found.theta];
+    let problem = Problem {
+        theta: &theta,
+        ..*problem
+    };
+    let fitted = fit(&problem, ROUNDS, values, b).map_err(refused)?;
+    let profile = criterion(&problem, ROUNDS, r.reml, r.n_agq, values, b).map_err(refused)?;
+    Ok(Answer {
+        adjusted,
+        search: found,
+        fit: fitted,
+        sigma2: profile.sigma2,
+    })
+}
+
+// From start values: the search without bounds, and then what is told at the theta found.
+#[tactic(auto, unfolding(crate::specs::Refit::with_search))]
+fn searched(
+    problem: &Problem<'_>,
+    r: &Request<'_>,
+    adjusted: bool,
+    values: &mut [f64],
+    b: &mut [f64],
+) -> Result<Answer, Refused>
+    ensures { with_search (given problem.now) r.now.reml r.now.n_agq adjusted values.old b.old
+        ≡ record { answer = result; starts = problem.now.starts.now; values = values.new; effects = b.new } }
+{
+    let found = search(problem, ROUNDS, r.reml, r.n_agq, NARROWINGS).map_err(
+        |refusal| Step::Search.refused(refusal, adjusted),
+    )?;
+    at_theta(problem, r, adjusted, found, values, b)
 }
 
 // From start values: no bounds, the search.
 fn started(
-    code: u64,
-    doses: &[f64],
-    grams: &[f64],
-    group: &[usize],
-    effects: &[usize],
-    reml: bool,
-    n_agq: u64,
+    curve: Curve,
+    r: &Request<'_>,
+    adjusted: bool,
     starts: &[f64],
     values: &mut [f64],
     b: &mut [f64],
-    adjusted: bool,
-) -> Answer
-    ensures { with_starts code doses.now grams.now group.now effects.now reml n_agq
-        adjusted starts.now values.old b.old
-        ≡ record {
-          answer = result;
-          starts = starts.now;
-          values = values.new;
-          effects = b.new;
-        } }
+) -> Result<Answer, Refused>
+    requires { code_of curve ≡ r.now.code }
+    ensures { with_starts (asked r.now) adjusted starts.now values.old b.old
+        ≡ record { answer = result; starts = starts.now; values = values.new; effects = b.new } }
 {
-    let big = math::infinity();
-    let lower = [-big; 4];
-    let upper = [big; 4];
-    let p = n_params(code);
-    from_starts(
-        code,
-        doses,
-        grams,
-        group,
-        b.len(),
-        effects,
-        reml,
-        n_agq,
+    let p = curve.n_params();
+    let lower = [f64::NEG_INFINITY; 4];
+    let upper = [f64::INFINITY; 4];
+    let problem = Problem {
+        code: r.code,
+        doses: r.doses,
+        grams: r.grams,
+        group: r.group,
+        groups: b.len(),
+        effects: r.effects,
         starts,
-        &lower[0..p],
-        &upper[0..p],
-        values,
-        b,
-        adjusted,
-    )
+        lower: &lower[..p],
+        upper: &upper[..p],
+        group_lower: &lower[..p],
+        group_upper: &upper[..p],
+        theta: &[],
+    };
+    searched(&problem, r, adjusted, values, b)
 }
 
 // Writes the curve's values and one effect for each canister, and, where they are not given, the start values.
+#[tactic(auto, unfolding(crate::specs::Refit::refit_of, crate::specs::Refit::self_started))]
 pub fn refit(
-    code: u64,
-    doses: &[f64],
-    grams: &[f64],
-    group: &[usize],
-    effects: &[usize],
-    reml: bool,
-    n_agq: u64,
-    given: bool,
+    request: &Request<'_>,
     starts: &mut [f64],
     values: &mut [f64],
     b: &mut [f64],
-) -> Answer
-    ensures { refit_of code doses.now grams.now group.now effects.now reml n_agq
-        given starts.old values.old b.old
-        ≡ record {
-          answer = result;
-          starts = starts.new;
-          values = values.new;
-          effects = b.new;
-        } }
+) -> Result<Answer, Refused>
+    ensures { refit_of (asked request.now) starts.old values.old b.old
+        ≡ record { answer = result; starts = starts.new; values = values.new; effects = b.new } }
 {
-    if given {
-        return started(
-            code, doses, grams, group, effects, reml, n_agq, starts, values, b, false,
-        );
+    let Ok(curve) = Curve::try_from(request.code) else {
+        return Err(request.first_step().refused(Refusal::Code, false));
+    };
+    if request.given {
+        return started(curve, request, false, starts, values, b);
     }
-    let answer = self_start::self_start(code, doses, grams, starts);
-    match answer {
-        self_start::Answer::Refused(n) => nothing(1, n, false),
-        self_start::Answer::Done => {
-            let adjusted = adjust(code, starts);
-            started(
-                code, doses, grams, group, effects, reml, n_agq, starts, values, b, adjusted,
-            )
-        }
-    }
+    self_start(request.code, request.doses, request.grams, starts).map_err(
+        |refusal| Step::Start.refused(refusal, false),
+    )?;
+    let adjusted = adjust(curve, starts);
+    started(curve, request, adjusted, starts, values, b)
 }

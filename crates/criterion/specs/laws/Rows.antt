@@ -15,16 +15,15 @@ use Rattle.quadrature.specs.Orders.{order_of, capped, capped_order}
 use Rattle.quadrature.specs.Rules as Rules
 use Rattle.quadrature.specs.Sums.{log_sum_exp}
 use Rattle.fit_refusals.specs.Problem.{Problem, problem_of}
-use Rattle.fit_step.specs.Lists.{each}
 use Rattle.fit_penalized.specs.Normal.{random_gradients}
-use Rattle.fit_penalized.specs.Penalized.{squares_of, penalty_sum}
-use Rattle.fit_step.specs.Project.{project_of}
-use Rattle.fit_step.specs.Trial.{on_scal, started, start_from}
+use Rattle.fit_step.specs.laws.Rows.{state_computes}
+use Rattle.fit_penalized.specs.Penalized.{rss_of, penalty_sum}
 use Rattle.fit.specs.Fit.{rounds, trace_of, fit_of}
-use Rattle.criterion_groups.specs.Groups.{count_of, own_of, gradients_at, group_squares}
-use Rattle.criterion_logdet.specs.LogDet.{add_products, block_of, logs_of, group_factor, logdet_of}
-use Rattle.criterion_agq.specs.Agq.{add_quotients, curvature_of, scaling_of, node_of, moved_of, term_of, terms_of, add_group, group_at, groups_of, agq_of}
-use Rattle.criterion.specs.Profile.{is_scalar, df_of, sigma2_of, laplace_of, corrected, det_of, profile_from, four_of}
+use Rattle.criterion_groups.specs.Groups.{own_of, gradients_at, group_squares, add_by, block_by}
+use Rattle.linalg.specs.Loops.{tries}
+use Rattle.criterion_logdet.specs.LogDet.{logs_of, group_factor, logdet_of}
+use Rattle.criterion_agq.specs.Agq.{scaling_of, node_of, moved_of, term_of, terms_of, add_group, group_at, groups_of, agq_of}
+use Rattle.criterion.specs.Profile.{is_scalar, df_of, sigma2_of, laplace_of, det_of, profile_from}
 use Rattle.criterion.specs.Answer.{profile_of}
 
 -- a problem without bounds, at its start: no round is allowed
@@ -80,5 +79,5 @@ rows =
     ∷ []
 
 pub rows_hold : T (every holds rows)
-unfolding rows every Ieee.round Ieee.le Ieee.of_int to_bits curve_computes re_cov_computes direction_computes order_of capped capped_order Rules.nodes_of Rules.weights_of Rules.z3 Rules.w3 log_sum_exp each random_gradients squares_of penalty_sum project_of on_scal started start_from rounds trace_of fit_of count_of own_of gradients_at group_squares add_products block_of logs_of group_factor logdet_of add_quotients curvature_of scaling_of node_of moved_of term_of terms_of add_group group_at groups_of agq_of is_scalar df_of sigma2_of laplace_of corrected det_of profile_from four_of profile_of
+unfolding rows Ieee.round Ieee.le Ieee.of_int to_bits curve_computes re_cov_computes direction_computes order_of capped capped_order Rules.nodes_of Rules.weights_of Rules.z3 Rules.w3 log_sum_exp state_computes random_gradients rss_of penalty_sum rounds trace_of fit_of own_of gradients_at group_squares add_by block_by tries logs_of group_factor logdet_of scaling_of node_of moved_of term_of terms_of add_group group_at groups_of agq_of is_scalar df_of sigma2_of laplace_of det_of profile_from profile_of
 rows_hold = tt

@@ -1,67 +1,43 @@
--- The narrowings are the definition's, and every theta that is asked is finite. Assumes nothing.
-use mathlib.Core.Path.{sym, ◌∙◌}
+-- Every theta that is asked is finite, whatever the criterion answers, and the narrowings are the definition's.
+use mathlib.Core.Path.{◌≡◌, sym, ◌∙◌}
+use Prim.Native.Nat.{min}
+use mathlib.Core.Logic.{inl, inr}
 use native.Mathlib.Omega.{arith}
-use Rattle.golden.proofs.Call.{asked}
-use Rattle.golden.proofs.Loop.{left_finite, right_finite, begins, room, new_finite, last_finite, goes, ends}
+use Rattle.golden.proofs.Loop.{left_finite, right_finite, begins, new_finite, last_finite, goes, counts, ends}
 use Rattle.golden.proofs.optimize_theta_golden.Goals as goal
+use Rattle.golden.proofs.optimize_theta_golden.Goals.{then-loop-t-test+else-narrowings-allowed, else-loop-t-test}
 
-pub criterion_at-fc-requires : goal.criterion_at-fc-requires
-criterion_at-fc-requires c = (c.requires, left_finite _ c.left_point-c.ensures)
+pub criterion-requires : goal.criterion-requires
+criterion-requires g c = c.requires _ (left_finite _ c.left_point-c.ensures)
 
-pub criterion_at-fd-requires : goal.criterion_at-fd-requires
-criterion_at-fd-requires c = (c.requires, right_finite _ c.right_point-d.ensures)
+pub criterion-requires-2 : goal.criterion-requires-2
+criterion-requires-2 g c = c.requires _ (right_finite _ c.right_point-d.ensures)
 
 pub loop-t-init : goal.loop-t-init
-loop-t-init c = begins _ _ _ _ _ _ _ _ _ c.left_point-c.ensures c.right_point-d.ensures c.criterion_at-fc.ensures c.criterion_at-fd.ensures
+loop-t-init g c = begins _ _ _ _ _ _ c.left_point-c.ensures c.right_point-d.ensures c.criterion.ensures c.criterion-2.ensures
 
-pub criterion_at-x-requires : goal.criterion_at-x-requires
-criterion_at-x-requires c =
-    let g = c.args in
-    let q = asked g.code g.doses.now g.grams.now g.group.now g.groups g.effects.now g.starts.now g.lower.now g.upper.now g.group_lower.now g.group_upper.now in
-    let L = c.loop-t in
-    (c.requires, new_finite q g.max_rounds g.reml g.n_agq g.allowed L.s L.made L.fits L.invariant _ c.new_point-t.ensures (sym c.goes_on.ensures ∙ c.loop-t-test.true))
-
-pub overflow_add-made : goal.overflow_add-made
-overflow_add-made c =
-    let g = c.args in
-    let q = asked g.code g.doses.now g.grams.now g.group.now g.groups g.effects.now g.starts.now g.lower.now g.upper.now g.group_lower.now g.group_upper.now in
-    let L = c.loop-t in
-    let r = room q g.max_rounds g.reml g.n_agq g.allowed L.s L.made L.fits L.invariant (sym c.goes_on.ensures ∙ c.loop-t-test.true) in omega (arith, r.0)
-
-pub overflow_add-fits : goal.overflow_add-fits
-overflow_add-fits c =
-    let g = c.args in
-    let q = asked g.code g.doses.now g.grams.now g.group.now g.groups g.effects.now g.starts.now g.lower.now g.upper.now g.group_lower.now g.group_upper.now in
-    let L = c.loop-t in
-    let r = room q g.max_rounds g.reml g.n_agq g.allowed L.s L.made L.fits L.invariant (sym c.goes_on.ensures ∙ c.loop-t-test.true) in omega (arith, r.0, L.invariant.counted)
-
-pub loop-t-smaller : goal.loop-t-smaller
-loop-t-smaller c =
-    let g = c.args in
-    let q = asked g.code g.doses.now g.grams.now g.group.now g.groups g.effects.now g.starts.now g.lower.now g.upper.now g.group_lower.now g.group_upper.now in
-    let L = c.loop-t in
-    let r = room q g.max_rounds g.reml g.n_agq g.allowed L.s L.made L.fits L.invariant (sym c.goes_on.ensures ∙ c.loop-t-test.true) in omega (arith, r.1)
+pub criterion-requires-in-loop-t : goal.criterion-requires-in-loop-t
+criterion-requires-in-loop-t g c = c.requires _ (new_finite _ _ _ _ _ c.loop-t.invariant _ c.new_point-t.ensures (sym c.is_wide.ensures ∙ c.loop-t-test.true))
 
 pub loop-t-preserved : goal.loop-t-preserved
-loop-t-preserved c =
-    let g = c.args in
-    let q = asked g.code g.doses.now g.grams.now g.group.now g.groups g.effects.now g.starts.now g.lower.now g.upper.now g.group_lower.now g.group_upper.now in
-    let L = c.loop-t in
-    goes q g.max_rounds g.reml g.n_agq g.allowed L.s L.made L.fits L.invariant _ _ _ (sym c.goes_on.ensures ∙ c.loop-t-test.true) c.new_point-t.ensures c.criterion_at-x.ensures c.narrow-s.ensures
+loop-t-preserved g c = rw c.narrowed-s.ensures (goes _ _ _ _ _ c.loop-t.invariant _ _ (sym c.is_wide.ensures ∙ c.loop-t-test.true) c.if-narrowings-allowed.true c.new_point-t.ensures c.criterion-in-loop-t.ensures)
 
-pub criterion_at-last-requires : goal.criterion_at-last-requires
-criterion_at-last-requires c =
-    let g = c.args in
-    let q = asked g.code g.doses.now g.grams.now g.group.now g.groups g.effects.now g.starts.now g.lower.now g.upper.now g.group_lower.now g.group_upper.now in
-    let L = c.loop-t in
-    (c.requires, last_finite q g.max_rounds g.reml g.n_agq g.allowed L.s L.made L.fits L.invariant _ c.middle-theta.ensures)
+pub criterion-last-requires : goal.criterion-last-requires
+criterion-last-requires g c = c.requires _ (last_finite _ _ _ _ _ c.loop-t.invariant _ c.middle-theta.ensures)
 
-pub overflow_add-result : goal.overflow_add-result
-overflow_add-result c = omega (arith, c.loop-t.invariant.counted, c.loop-t.invariant.few)
+pub returns-clause-demand3 : goal.returns-clause-demand3
+returns-clause-demand3 g c =
+    let l = c.loop-t in
+    let made =
+    elim c.loop-t-test.branch as (λ _. l.narrowings ≡ min 26 c.args.allowed) [
+      | then-loop-t-test+else-narrowings-allowed w ↦ counts _ _ _ _ _ l.invariant (inr w.if-narrowings-allowed.false)
+      | else-loop-t-test w ↦ counts _ _ _ _ _ l.invariant (inl (sym c.is_wide.ensures ∙ w.loop-t-test.false))
+    ] in
+    record { at_most = omega arith; exactly = made; fits = omega (arith, l.invariant.counted) }
 
-pub returns : goal.returns
-returns c =
-    let g = c.args in
-    let q = asked g.code g.doses.now g.grams.now g.group.now g.groups g.effects.now g.starts.now g.lower.now g.upper.now g.group_lower.now g.group_upper.now in
-    let L = c.loop-t in
-    ends q g.max_rounds g.reml g.n_agq g.allowed L.s L.made L.fits L.invariant _ _ _ (sym c.goes_on.ensures ∙ c.loop-t-test.false) c.middle-theta.ensures c.criterion_at-last.ensures c.has_converged.ensures
+pub returns-clause-search : goal.returns-clause-search
+returns-clause-search g c =
+    elim c.loop-t-test.branch [
+      | then-loop-t-test+else-narrowings-allowed w ↦ ends _ _ _ _ _ c.loop-t.invariant _ _ _ (inr w.if-narrowings-allowed.false) c.middle-theta.ensures c.criterion-last.ensures c.has_converged.ensures
+      | else-loop-t-test w ↦ ends _ _ _ _ _ c.loop-t.invariant _ _ _ (inl (sym c.is_wide.ensures ∙ w.loop-t-test.false)) c.middle-theta.ensures c.criterion-last.ensures c.has_converged.ensures
+    ]

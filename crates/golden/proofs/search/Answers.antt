@@ -1,23 +1,19 @@
--- A search without faults has fits without faults at every finite theta. Assumes nothing.
-use mathlib.Core.Path.{sym, ◌∙◌}
-use Rattle.fit_refusals.specs.laws.Valid.{search_fits}
-use Rattle.golden.proofs.Call.{asked, refused_as, done_as}
+-- The criterion answers by the definition's at every finite theta, so the search is the definition's.
+use mathlib.Core.Path.{sym, ap, ◌∙◌}
+use borrow.Author.Rules.{rules}
+use borrow.Author.Tests.{eq-eqb}
+use Rattle.math.specs.laws.Loops.{pick_true}
+use Rattle.fit_refusals.specs.Given.{checked}
+use Rattle.golden.specs.Search.{Told, criterion_at, search_of}
+use Rattle.golden.specs.declared.Found.{Found}
+use Rattle.std.specs.Prelude.{Some}
 use Rattle.golden.proofs.search.Goals as goal
 
-pub returns-then-fault-ne0 : goal.returns-then-fault-ne0
-returns-then-fault-ne0 c =
-    let g = c.args in
-    let q = asked g.code g.doses.now g.grams.now g.group.now g.groups g.effects.now g.starts.now g.lower.now g.upper.now g.group_lower.now g.group_upper.now in
-    refused_as q g.max_rounds g.reml g.n_agq g.max_narrowings _ c.search_fault-fault.ensures c.if-fault-ne0.true
-
-pub optimize_theta_golden-requires : goal.optimize_theta_golden-requires
-optimize_theta_golden-requires c =
-    let g = c.args in
-    let q = asked g.code g.doses.now g.grams.now g.group.now g.groups g.effects.now g.starts.now g.lower.now g.upper.now g.group_lower.now g.group_upper.now in
-    search_fits q g.max_rounds g.max_narrowings (sym c.search_fault-fault.ensures ∙ c.if-fault-ne0.false)
-
 pub returns : goal.returns
+unfolding search_of
 returns c =
-    let g = c.args in
-    let q = asked g.code g.doses.now g.grams.now g.group.now g.groups g.effects.now g.starts.now g.lower.now g.upper.now g.group_lower.now g.group_upper.now in
-    done_as q g.max_rounds g.reml g.n_agq g.max_narrowings _ _ c.search_fault-fault.ensures c.if-fault-ne0.false c.optimize_theta_golden.ensures
+    let a = c.args in
+    let p = c.in_ok-problem in
+    let found = c.optimize_theta_golden.ensures.search (criterion_at (checked p.problem) a.max_rounds a.reml a.n_agq) (λ t x f h. search rules) in
+    let e = rw p.ensures.same at found in
+    ap {B = Told} (λ (f : Found). record { number = 0; found = Some f }) e ∙ sym (pick_true _ _ _ (eq-eqb _ _ (sym p.ensures.number)))

@@ -1,0 +1,57 @@
+// The criterion that a search asks at each theta.
+ghost use Rattle.std.specs.Prelude.{◌≡◌, true};
+ghost use Rattle.math.specs.Basic.{is_finite};
+ghost use Rattle.fit_refusals.specs.Given.{checked};
+ghost use Rattle.golden.specs.Search.{criterion_at, AlwaysFits};
+
+use criterion::criterion_checked;
+use fit_refusals::NlmmProblem;
+
+// A search's problem, without theta, and what its fits and criteria are given.
+#[derive(Clone, Copy)]
+pub struct Asked<'a> {
+    pub problem: NlmmProblem<'a>,
+    pub max_rounds: u64,
+    pub reml: bool,
+    pub n_agq: u64,
+    pub ghost fits: { AlwaysFits (checked problem) max_rounds },
+}
+
+impl Asked<'_> {
+    // At theta t, from the given start; the curve values and the effects are not kept.
+    #[tactic(auto, using(fit_step::specs::laws::Sized::params_most), unfolding(crate::specs::Search::criterion_at))]
+    pub fn criterion(&self, t: f64) -> f64
+        requires { is_finite t ≡ true }
+        ensures { result ≡ criterion_at (checked self.now.problem) self.now.max_rounds self.now.reml self.now.n_agq t }
+    {
+        let q = &self.problem;
+        let theta = [t];
+        let problem = NlmmProblem {
+            curve: q.curve,
+            doses: q.doses,
+            grams: q.grams,
+            group: q.group,
+            groups: q.groups,
+            effects: q.effects,
+            starts: q.starts,
+            lower: q.lower,
+            upper: q.upper,
+            group_lower: q.group_lower,
+            group_upper: q.group_upper,
+            theta: &theta,
+        };
+        let p = q.curve.n_params();
+        let n = q.groups * q.effects.len();
+        let mut values = [0.0; 4];
+        let mut effects = [0.0; 64];
+        criterion_checked(
+            &problem,
+            self.max_rounds,
+            self.reml,
+            self.n_agq,
+            &mut values[..p],
+            &mut effects[..n],
+        )
+        .criterion
+    }
+}
