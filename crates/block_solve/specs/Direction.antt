@@ -95,8 +95,3 @@ is_direction o = is_some (finite_only o)
 
 abbrev pub left_in : Option (List Float) → List Float → List Float
 left_in = unwrap_or
-
--- opens these definitions in a proof
-unfoldable pub direction_steps : Unit {0}
-unfolding damped_fixed damped_block group_of eliminated_of finished_of direction_of solved_of
-direction_steps = tt

@@ -85,8 +85,3 @@ add_priors k groups m b n = iter (prior_turn k m b) groups n
 -- effects for which there is no place add nothing
 unfoldable pub prior_of : ℕ → ℕ → List (List Float) → List Float → BlockNormal → BlockNormal
 prior_of k groups m b n = cond (leb k 2 && leb groups 32 && eqb (length b) (groups * k)) (add_priors k groups m b n) n
-
--- opens these definitions in a proof
-unfoldable pub normal_steps : Unit {0}
-unfolding accumulate_of times_of prior_group add_priors prior_of
-normal_steps = tt

@@ -3,3 +3,4 @@ pub mod Blocks
 pub mod Computes
 pub mod Direction
 pub mod Normal
+pub mod Steps

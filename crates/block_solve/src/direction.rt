@@ -1,6 +1,6 @@
 // The damped direction. The groups' blocks are eliminated one by one, the fixed system that is left is
 // solved, and each group's effects follow from it.
-#![tactic(auto, using(linalg::specs::laws::Loops::loops), unfolding(crate::specs::Direction::direction_steps))]
+#![tactic(auto, using(linalg::specs::laws::Loops::loops), unfolding(crate::specs::laws::Steps::direction_steps))]
 
 ghost use Rattle.std.specs.Prelude.{◌≡◌, ◌+◌, ◌*◌, ◌≤◌, ◌<◌, length};
 ghost use Rattle.block_solve.specs.Direction.{damped_fixed, damped_block, row_of, group_of, eliminated_of, solved_of, is_direction, left_in, finished_of};

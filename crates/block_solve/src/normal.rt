@@ -1,5 +1,5 @@
 // The normal blocks of at most four curve values, two effects and 32 groups.
-#![tactic(auto, using(crate::proofs::Blocks::blocks), unfolding(crate::specs::Blocks::products_of, crate::specs::Blocks::multiples_of, crate::specs::Normal::normal_steps))]
+#![tactic(auto, using(crate::proofs::Blocks::blocks), unfolding(crate::specs::Blocks::products_of, crate::specs::Blocks::multiples_of, crate::specs::laws::Steps::normal_steps))]
 
 ghost use Rattle.std.specs.Prelude.{◌≡◌, ◌+◌, ◌*◌, ◌≤◌, ◌<◌, length};
 ghost use Rattle.block_solve.specs.Blocks.{products_of, multiples_of, fixed_of, fixed_rhs_of, cross_of, random_of, random_rhs_of};

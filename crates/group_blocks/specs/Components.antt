@@ -31,8 +31,3 @@ append_group p k x solved g l =
 
 unfoldable pub components_of : ℕ → ℕ → ℕ → List Float → List Solution → List Float
 components_of p k groups x solved = span (append_group p k x solved) 0 groups (take p x)
-
--- opens these definitions in a proof
-unfoldable pub component_steps : Unit {0}
-unfolding columns_times components_of
-component_steps = tt

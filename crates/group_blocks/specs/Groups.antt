@@ -56,8 +56,3 @@ module _ (k p : ℕ) (b : Group) (o : Solution) where
 
   unfoldable pub reduce_by : System → System
   reduce_by s = span reduce_row 0 p s
-
--- opens these definitions in a proof
-unfoldable pub group_steps : Unit {0}
-unfolding dot_of columns_of solution_of reduce_row reduce_by
-group_steps = tt

@@ -1,2 +1,3 @@
 pub mod Components
 pub mod Groups
+pub mod laws

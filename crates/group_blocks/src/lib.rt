@@ -1,6 +1,6 @@
 // The direction group by group: a group's block, damped and solved; the fixed system less what it takes up; and
 // its effects. block_solve puts these together.
-#![tactic(auto, using(linalg::specs::laws::Loops::loops), unfolding(crate::specs::Groups::group_steps, crate::specs::Components::component_steps))]
+#![tactic(auto, using(linalg::specs::laws::Loops::loops), unfolding(crate::specs::laws::Steps::group_steps, crate::specs::laws::Steps::component_steps))]
 
 ghost use Rattle.std.specs.Prelude.{◌≡◌, ◌+◌, ◌*◌, ◌≤◌, ◌<◌, ◌↔◌, IsSome, IfSome, IsTrue, length};
 ghost use Rattle.math.specs.Basic.{is_finite};
@@ -141,7 +141,7 @@ fn write_effects(out: &mut [f64], x: f64, y: f64)
 }
 
 // The direction, from the fixed values x and the groups' solutions; whether each of its components is finite.
-#[tactic(auto, using(linalg::specs::laws::Loops::loops, crate::proofs::Laws::parts), unfolding(crate::specs::Components::component_steps))]
+#[tactic(auto, using(linalg::specs::laws::Loops::loops, crate::proofs::Laws::parts), unfolding(crate::specs::laws::Steps::component_steps))]
 pub fn write_direction(out: &mut [f64], shape: Shape, x: [f64; 4], solved: &[Solution; 32]) -> bool
     requires { length out.old ≡ shape.p + shape.groups * shape.k }
     ensures written { out.new ≡ components_of shape.p shape.k shape.groups x solved.now }

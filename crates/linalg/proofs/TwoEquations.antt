@@ -7,8 +7,9 @@ use Rattle.math.specs.Matrix.{rows}
 use Rattle.math.specs.Loops.{from}
 use Rattle.linalg.specs.declared.elimination.System.{System}
 use Rattle.linalg.specs.Loops.{down, tries}
-use Rattle.linalg.specs.Elimination.{elimination_steps, eliminate_of}
+use Rattle.linalg.specs.Elimination.{eliminate_of}
 use Rattle.linalg.specs.Pair.{two_of, pair_of, eliminated}
+use Rattle.linalg.specs.laws.Steps.{elimination_steps}
 
 -- the system with rows a b | r and c d | s
 abbrev pub system_of : Float → Float → Float → Float → Float → Float → System

@@ -64,8 +64,3 @@ module _ (n : ℕ) where
 -- the solution of n equations; none at an exactly zero pivot, and for more than four
 unfoldable pub solve_of : ℕ → System → Option (List Float)
 solve_of n s = cond (leb n 4) (eliminate_of n s) None
-
--- opens these definitions in a proof
-unfoldable pub elimination_steps : Unit {0}
-unfolding better pivot_of swap_of clear_row column_of back_of eliminate_of solve_of
-elimination_steps = tt

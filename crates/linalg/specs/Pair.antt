@@ -47,8 +47,3 @@ first_column k m a = cond (eqb k 1) (Some (rows a zero zero zero)) (second_row a
 
 unfoldable pub cholesky_of : ℕ → List (List Float) → Option (List (List Float))
 cholesky_of k m = option_and_then (first_column k m) (root_of (entry m 0 0))
-
--- opens these definitions in a proof
-unfoldable pub pair_steps : Unit {0}
-unfolding two_of pair_of inverse_of cholesky_of
-pair_steps = tt

@@ -1,5 +1,5 @@
 // Gaussian elimination with partial pivoting and back substitution, for at most four equations.
-#![tactic(auto, using(crate::specs::laws::Loops::loops), unfolding(crate::specs::Elimination::elimination_steps))]
+#![tactic(auto, using(crate::specs::laws::Loops::loops), unfolding(crate::specs::laws::Steps::elimination_steps))]
 
 ghost use Rattle.std.specs.Prelude.{◌≡◌, ◌≤◌, ◌<◌};
 ghost use Rattle.linalg.specs.Elimination.{pivot_of, swap_of, clear_row, column_of, back_of, eliminate_of, solve_of};

@@ -1,5 +1,5 @@
 // The same for one or two equations, whose answer is a pair of numbers, and the two by two inverse and Cholesky factor.
-#![tactic(auto, unfolding(crate::specs::Pair::pair_steps))]
+#![tactic(auto, unfolding(crate::specs::laws::Steps::pair_steps))]
 
 ghost use Rattle.std.specs.Prelude.{◌≡◌};
 ghost use Rattle.linalg.specs.Pair.{rows_of, two_of, pair_of, inverse_of, root_of, cholesky_of};

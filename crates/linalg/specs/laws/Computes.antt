@@ -4,8 +4,7 @@ use Rattle.math.specs.Basic.{abs_of}
 use Rattle.math.specs.laws.Computes.{sqrt_computes}
 use Rattle.math.specs.Loops.{from}
 use Rattle.linalg.specs.Loops.{down, tries}
-use Rattle.linalg.specs.Elimination.{elimination_steps}
-use Rattle.linalg.specs.Pair.{pair_steps}
+use Rattle.linalg.specs.laws.Steps.{pair_steps, elimination_steps}
 
 unfoldable pub linalg_computes : Unit {0}
 unfolding sqrt_computes abs_of Ieee.add Ieee.sub Ieee.mul Ieee.div Ieee.neg Ieee.eq Ieee.lt Ieee.of_bits from down tries elimination_steps pair_steps
