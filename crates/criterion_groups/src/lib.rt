@@ -5,9 +5,9 @@
 ghost use Rattle.std.specs.Prelude.{◌≡◌, ◌≤◌, ◌<◌, ◌*◌, ◌++◌, List, [], ◌∷◌, Float, length, take};
 ghost use Rattle.math.specs.Parts.{part};
 ghost use Rattle.fit_refusals.specs.Given.{checked};
-ghost use Rattle.criterion_groups.specs.Groups.{own_of, curve_at, gradients_at, group_squares, block_by};
+ghost use Rattle.criterion_groups.specs.Groups.{own_of, group_squares, block_by};
 
-use curves::Mean;
+use curves::mean_fn::effective;
 use fit_penalized::normal::random_gradients;
 use fit_refusals::NlmmProblem;
 use std::marker::Model;
@@ -100,37 +100,23 @@ impl Estimate<'_> {
         &self.b[g * k..g * k + k]
     }
 
-    // The curve at dose x, with effects b.
-    fn curve(&self, b: &[f64], x: f64) -> Mean
-        ensures { result ≡ curve_at (checked self.now.problem) self.now.values b.now x }
-    {
-        let q = &self.problem;
-        q.curve.eval_mean_with_re(x, self.values, q.effects, b)
-    }
-
-    // Its gradients by the effects; for one effect the second is +0.
-    #[tactic(auto, unfolding(crate::specs::Groups::gradients_at))]
-    pub fn gradients(&self, b: &[f64], x: f64) -> [f64; 2]
-        ensures { result ≡ gradients_at (checked self.now.problem) self.now.values b.now x }
-    {
-        random_gradients(&self.problem, self.curve(b, x))
-    }
-
     // The rss of a group's readings at its effects.
-    #[tactic(auto, using(math::specs::laws::Loops::turns), unfolding(crate::specs::Groups::group_squares))]
+    #[tactic(auto, using(math::specs::laws::Loops::turns), unfolding(crate::specs::Groups::group_squares, curves::specs::MeanFn::eval_with_re_of))]
     pub fn squares(&self, group: &Group<'_>) -> f64
         ensures { result ≡ group_squares (checked self.now.problem) self.now.values group.now.b.now group.now.doses.now group.now.grams.now }
     {
+        let q = &self.problem;
+        let values = effective(self.values, q.effects, group.b);
         let mut sum = 0.0;
-        for (x, gram) in group.doses.iter().zip(group.grams) {
-            let r = gram - self.curve(group.b, *x).mu;
+        for (i, x) in group.doses.iter().enumerate() {
+            let r = group.grams[i] - q.curve.eval(*x, values).mu;
             sum += r * r;
         }
         sum
     }
 
     // The block m with the products of the gradients at each dose added, each as `each` leaves it.
-    #[tactic(auto, using(math::specs::laws::Loops::turns), unfolding(crate::specs::Groups::block_by, crate::specs::Groups::add_by))]
+    #[tactic(auto, using(math::specs::laws::Loops::turns), unfolding(crate::specs::Groups::block_by, crate::specs::Groups::add_by, crate::specs::Groups::gradients_at, curves::specs::MeanFn::eval_with_re_of))]
     pub fn block<F: Fn(f64) -> f64>(
         &self,
         b: &[f64],
@@ -141,9 +127,11 @@ impl Estimate<'_> {
         requires { F.IsAlwaysCallable each }
         ensures { (f : Float → Float) → ((x y : Float) → F.post each x y → y ≡ f x) → result ≡ block_by f (checked self.now.problem) self.now.values b.now doses.now m }
     {
+        let q = &self.problem;
+        let values = effective(self.values, q.effects, b);
         let mut sum = m;
         for x in doses {
-            let [u, v] = self.gradients(b, *x);
+            let [u, v] = random_gradients(q, q.curve.eval(*x, values));
             sum = [
                 [sum[0][0] + each(u * u), sum[0][1] + each(u * v)],
                 [sum[1][0] + each(v * u), sum[1][1] + each(v * v)],
