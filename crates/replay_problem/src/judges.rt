@@ -17,17 +17,18 @@ pub fn judge_fit(words: &mut Words<'_>, case: Problem<'_>) -> Option<bool> {
     let values = values.get_mut(..words.value()?)?;
     let effects = effects.get_mut(..words.value()?)?;
     words.named(b"=")?;
-    let (number, rss, converged, rounds, trials) =
-        match fit::fit(&problem, max_rounds, values, effects) {
-            Ok(f) => (
-                0,
-                f.rss,
-                u64::from(f.converged),
-                f.rounds as u64,
-                f.trials as u64,
-            ),
-            Err(refusal) => (refusal.number(), kept(), KEPT, KEPT, KEPT),
-        };
+    let (number, rss, converged, rounds, trials) = match fit::fit(
+        &problem, max_rounds, values, effects,
+    ) {
+        Ok(f) => (
+            0,
+            f.rss,
+            u64::from(f.converged),
+            f.rounds as u64,
+            f.trials as u64,
+        ),
+        Err(refusal) => (refusal.number(), kept(), KEPT, KEPT, KEPT),
+    };
     // `&` reads every word, also after one that differs.
     Some(
         words.says(number)?
@@ -53,11 +54,12 @@ pub fn judge_criterion(words: &mut Words<'_>, case: Problem<'_>) -> Option<bool>
     let values = values.get_mut(..words.value()?)?;
     let effects = effects.get_mut(..words.value()?)?;
     words.named(b"=")?;
-    let (number, floats) =
-        match criterion::criterion(&problem, max_rounds, reml, n_agq, values, effects) {
-            Ok(p) => (0, [p.criterion, p.sigma2]),
-            Err(refusal) => (refusal.number(), [kept(); 2]),
-        };
+    let (number, floats) = match criterion::criterion(
+        &problem, max_rounds, reml, n_agq, values, effects,
+    ) {
+        Ok(p) => (0, [p.criterion, p.sigma2]),
+        Err(refusal) => (refusal.number(), [kept(); 2]),
+    };
     Some(
         words.says(number)?
             & words.says_list(values)?
@@ -73,14 +75,19 @@ pub fn judge_search(words: &mut Words<'_>, case: Problem<'_>) -> Option<bool> {
     let n_agq = words.value()?;
     let max_narrowings = words.value()?;
     words.named(b"=")?;
-    let (number, floats, counts) =
-        match golden::search(&case, max_rounds, reml, n_agq, max_narrowings) {
-            Ok(f) => (
-                0,
-                [f.theta, f.criterion],
-                [f.narrowings, u64::from(f.converged), f.fits],
-            ),
-            Err(refusal) => (refusal.number(), [kept(); 2], [KEPT; 3]),
-        };
+    let (number, floats, counts) = match golden::search(
+        &case,
+        max_rounds,
+        reml,
+        n_agq,
+        max_narrowings,
+    ) {
+        Ok(f) => (
+            0,
+            [f.theta, f.criterion],
+            [f.narrowings, u64::from(f.converged), f.fits],
+        ),
+        Err(refusal) => (refusal.number(), [kept(); 2], [KEPT; 3]),
+    };
     Some(words.says(number)? & words.says_each(&floats)? & words.says_each(&counts)?)
 }
