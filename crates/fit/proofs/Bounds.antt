@@ -10,7 +10,7 @@ use native.Mathlib.Nat.{lt_of_lt_of_le}
 use native.Mathlib.Omega.{arith}
 use lib.Dec.{T}
 use lib.Ieee.{Float, nan, inf, lt, is_nan, of_bits}
-use lib.ListN.{length, get_or, replicate, length-replicate}
+use lib.ListN.{length, get_or, replicate, length-replicate, length-set}
 use Rattle.math.specs.Basic as Basic
 use Rattle.math.specs.Basic.{mul, is_finite, abs_of}
 use Rattle.math.specs.laws.Lists.{every_at}
@@ -28,7 +28,8 @@ use Rattle.fit_step.specs.Trial.{at_place, on_scal, adjusted, floored, start_at,
 use Rattle.fit_step.specs.laws.Sized.{params_most}
 use Rattle.fit.specs.Demand3.{Inside, InBounds}
 use Rattle.fit.proofs.Floats.{below_number, mul_finite, short}
-use Rattle.fit.proofs.Lists.{pick_keeps, iter_length, alter_length, alter_keeps, each_at_lem, each_length}
+use Rattle.fit.proofs.Lists.{iter_length, alter_keeps, each_at_lem, each_length}
+use Rattle.std.proofs.lemmas.Bool.{cond_both}
 
 -- ---- the clamp
 
@@ -55,7 +56,7 @@ place_numbers n (Some j) f l h x i b = alter_keeps (λ (v : Float). is_nan v ≡
 
 place_length : (o : Option ℕ) (f : Float → Float) (l : List Float) → length (at_place o f l) ≡ length l
 place_length None f l = refl
-place_length (Some j) f l = alter_length l j f
+place_length (Some j) f l = length-set l j (f (get_or l j nan))
 
 scal_numbers : (n code : ℕ) (f : Float → Float) (l : List Float) → ((v : Float) → is_nan v ≡ false → is_nan (f v) ≡ false) → Numbers n l
     → Numbers n (on_scal code f l)
@@ -75,10 +76,10 @@ unfolding is_nan of_bits
 number_1e_6 = refl
 
 adjusted_number : (v : Float) → is_nan v ≡ false → is_nan (adjusted v) ≡ false
-adjusted_number v h = pick_keeps (λ (x : Float). is_nan x ≡ false) (lt (abs_of v) 1e-8) three_fifty v number_350 h
+adjusted_number v h = cond_both (lt (abs_of v) 1e-8) three_fifty v (λ (x : Float). is_nan x ≡ false) (λ _. number_350) (λ _. h)
 
 floored_number : (v : Float) → is_nan v ≡ false → is_nan (floored v) ≡ false
-floored_number v h = pick_keeps (λ (x : Float). is_nan x ≡ false) (lt v 1e-6) 1e-6 v number_1e_6 h
+floored_number v h = cond_both (lt v 1e-6) 1e-6 v (λ (x : Float). is_nan x ≡ false) (λ _. number_1e_6) (λ _. h)
 
 -- ---- the projection of the effects keeps their number
 
@@ -90,8 +91,8 @@ module _ (q : Problem) where
       let hi = get_or q.group_upper (get_or q.effects r 0) nan in
       let beta = get_or values (get_or q.effects r 0) nan in
       let f = group_clamp lo hi beta in
-      pick_keeps (λ (x : List Float). length x ≡ length b) (is_finite lo || is_finite hi) (slot_of q r lo hi beta b) b
-      (iter_length (slot_at q r f) (λ g l. alter_length l (g * k q + r) f) q.groups b) refl
+      cond_both (is_finite lo || is_finite hi) (slot_of q r lo hi beta b) b (λ (x : List Float). length x ≡ length b)
+      (λ _. iter_length (slot_at q r f) (λ g l. length-set l (g * k q + r) (f (get_or l (g * k q + r) nan))) q.groups b) (λ _. refl)
 
   groups_length : (values b : List Float) → length (project_groups q values b) ≡ length b
   unfolding project_groups

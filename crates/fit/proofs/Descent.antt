@@ -26,7 +26,8 @@ use Rattle.fit_round.specs.Round.{1e-10, Trial, Trace, ended, tried, direction, 
 use Rattle.fit.specs.Fit.{won, begun, rounds}
 use Rattle.fit.specs.Demand3.{InBounds, winners_of}
 use Rattle.fit.proofs.Floats.{short}
-use Rattle.fit.proofs.Lists.{pick_keeps, All}
+use Rattle.fit.proofs.Lists.{All}
+use Rattle.std.proofs.lemmas.Bool.{cond_both}
 use Rattle.fit_step.specs.laws.Sized.{params_most}
 use Rattle.fit.proofs.Bounds.{tried_inside}
 
@@ -136,8 +137,8 @@ module _ (q : Problem) where
             let t = lengths q s blocks old win 20 next d lambda one in
             let size = valid.sizes in
             let sound = direction_sound blocks (p q) (k q) q.groups lambda d (params_most q.code) size.effects_low size.effects_high e in
-            pick_keeps (TraceLaw n (20 * suc m) old) (lt (largest_of d) 1e-10) (ended true) t (ended_law n old (20 * suc m) true)
-            (more n old (20 + 20 * m) (20 * suc m) t (omega arith) (lengths_law (20 * m) next rest d sound lambda 20 one all_short))
+            cond_both (lt (largest_of d) 1e-10) (ended true) t (TraceLaw n (20 * suc m) old) (λ _. ended_law n old (20 * suc m) true)
+            (λ _. more n old (20 + 20 * m) (20 * suc m) t (omega arith) (lengths_law (20 * m) next rest d sound lambda 20 one all_short))
 
         attempts_law : (m : ℕ) (lambda : Float) → TraceLaw n (20 * m) old (attempts q s blocks old win m lambda)
         unfolding attempts
@@ -152,5 +153,5 @@ module _ (q : Problem) where
         let onward : State → Float → Float → Trace = λ z l step. cond (lt step 1e-10) (ended true) (rounds q m z l) in
         begun_law m (sum_of q s) (attempts q s (normal_of q s) (sum_of q s) (λ z l step. won z (onward z l step)) 12 lambda)
         (attempts_law m s (normal_of q s) onward b
-        (λ z l step i. pick_keeps (TraceLaw m 0 (sum_of q z)) (lt step 1e-10) (ended true) (rounds q m z l) (ended_law m (sum_of q z) 0 true) (rounds_law m z l i))
+        (λ z l step i. cond_both (lt step 1e-10) (ended true) (rounds q m z l) (TraceLaw m 0 (sum_of q z)) (λ _. ended_law m (sum_of q z) 0 true) (λ _. rounds_law m z l i))
         12 lambda)

@@ -1,7 +1,6 @@
 -- What a loop keeps, what holds at each place of a list, and what `alter` and `each` leave at a place. Assumes nothing.
 use mathlib.Core.Path.{◌≡◌, refl, sym, ap, ◌∙◌, subst}
 use mathlib.Core.Logic.{inl, inr}
-use mathlib.Core.Bool.{Bool, true, false, cond}
 use mathlib.Core.List.{List, [], ◌∷◌}
 use Prim.Native.Nat.{ℕ, zero, suc, ◌≤◌, ◌<◌}
 use native.Mathlib.Nat.{eq-or-lt_of_le, le_of_suc-le-suc, not-suc-le-zero}
@@ -19,11 +18,6 @@ module _ {A : Type 0} (P : A → Type 0) where
   iter_keeps f h zero a x = x
   iter_keeps f h (suc n) a x = h n (iter f n a) (iter_keeps f h n a x)
 
-  -- what holds of both, holds of the one chosen
-  pub pick_keeps : (b : Bool) (x y : A) → P x → P y → P (cond b x y)
-  pick_keeps true x y p q = p
-  pick_keeps false x y p q = q
-
   -- P of each element
   abbrev pub All : List A → Type 0
   All [] = Unit {0}
@@ -40,12 +34,9 @@ pub iter_length : (f : ℕ → List Float → List Float) → ((i : ℕ) (l : Li
     → length (iter f n l) ≡ length l
 iter_length f h n l = iter_keeps (λ r. length r ≡ length l) f (λ i r e. h i r ∙ e) n l refl
 
-pub alter_length : (l : List Float) (i : ℕ) (f : Float → Float) → length (alter l i f) ≡ length l
-alter_length l i f = length-set l i (f (get_or l i nan))
-
 pub each_length : (f : ℕ → Float → Float) (n : ℕ) (l : List Float) → length (each f n l) ≡ length l
 unfolding each
-each_length f n l = iter_length (each_at f) (λ i r. alter_length r i (f i)) n l
+each_length f n l = iter_length (each_at f) (λ i r. length-set r i (f i (get_or r i nan))) n l
 
 -- ---- one place altered, and each of the first n
 

@@ -1,21 +1,13 @@
 -- p is at most 4, and the effects fit their 64 places.
-use Rattle.std.specs.Prelude.{ℕ, ◌+◌, ◌*◌, ◌≤◌, ◌<◌, ◌≡◌, Bool, true, false, cond, eqb}
+use Rattle.std.specs.Prelude.{ℕ, ◌+◌, ◌*◌, ◌≤◌, ◌<◌}
 use Rattle.std.proofs.Common.{mul-le-mul_right, arith}
 use Rattle.math.specs.laws.Parts.{group_fits}
 use Rattle.curves.specs.MeanFn.{n_params_of}
-
-most : (a b : Bool) → cond a 2 (cond b 4 3) ≤ 4
-most true b = omega arith
-most false true = omega arith
-most false false = omega arith
+use Rattle.fit_refusals.specs.laws.Valid.{params_few}
 
 -- p is at most 4
 pub params_most : (code : ℕ) → n_params_of code ≤ 4
-unfolding n_params_of
-params_most code = most (eqb code 3) (eqb code 4)
-
-pub few_params : (p code : ℕ) → p ≡ n_params_of code → p ≤ 4
-few_params p code e = rw e (params_most code)
+params_most code = (params_few code).1
 
 -- the effects of at most 32 groups lie within the 64 places, and so do one group's
 pub all_fit : (groups k : ℕ) → groups ≤ 32 → k ≤ 2 → groups * k ≤ 64
