@@ -5,4 +5,5 @@ pub mod Loops
 pub mod Numbers
 pub mod Order
 pub mod Parts
+pub mod Zips
 pub mod Literals
