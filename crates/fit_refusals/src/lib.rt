@@ -1,8 +1,9 @@
 // What a fit, a criterion and a search are given, and the same once it is checked by document 01's numbered faults.
 #![tactic(auto)]
 
+ghost use Rattle.std.specs.Prelude.{◌≡◌, length};
 ghost use Rattle.curves.specs.MeanFn.{code_of};
-ghost use Rattle.fit_refusals.specs.Problem.{problem_of};
+ghost use Rattle.fit_refusals.specs.Problem.{problem_of, is_scalar};
 ghost use Rattle.fit_refusals.specs.Valid.{Valid};
 
 pub mod checks;
@@ -44,4 +45,14 @@ pub struct NlmmProblem<'a> {
     pub ghost valid: { Valid
         (problem_of (code_of curve) doses.now grams.now group.now groups effects.now
         starts.now lower.now upper.now group_lower.now group_upper.now theta.now) },
+}
+
+impl NlmmProblem<'_> {
+    // Curve 2 with one effect, whose criterion and first lambda are of their own (the Rust's `scalar_ssasymp`).
+    #[tactic(auto, unfolding(crate::specs::Problem::is_scalar))]
+    pub fn is_scalar(&self) -> bool
+        ensures { result ≡ is_scalar (code_of self.now.curve) (length self.now.effects.now) }
+    {
+        self.effects.len() == 1 && self.curve == Curve::Ssasymp
+    }
 }

@@ -1,11 +1,11 @@
 -- The start of a fit, the state that a trial tries, and the lambdas (in `inner_gauss_newton_status`).
-use Rattle.std.specs.Prelude.{ℕ, ◌+◌, ◌*◌, cond, ◌&&◌, Option, Some, None, List, fold, map, eqb, Float, get_or, replicate}
+use Rattle.std.specs.Prelude.{ℕ, ◌+◌, ◌*◌, cond, Option, Some, None, List, fold, map, Float, get_or, replicate}
 use Rattle.std.specs.Float.{nan}
 use Rattle.std.specs.Float.Ieee.{lt}
 use Rattle.math.specs.Basic.{add, mul, zero, abs_of, max_of, min_of}
 use Rattle.math.specs.Rationals.{1e-8}
 use Rattle.curves.specs.MeanFn.{scal_index_of}
-use Rattle.fit_refusals.specs.Problem.{Problem, p, k}
+use Rattle.fit_refusals.specs.Problem.{Problem, p, k, is_scalar}
 use Rattle.fit_step.specs.declared.State.{State}
 use Rattle.fit_step.specs.Lists.{alter, each}
 use Rattle.fit_step.specs.Constants.{ten, three_tenths, three_fifty, 1e6, 1e-2, 1e-4, 1e-6}
@@ -79,7 +79,7 @@ step_of alpha d = largest_of (map (mul alpha) d)
 -- ---- lambda: at the start, 1e-2 for curve 2 with one effect; after a win; after a failed attempt
 
 unfoldable pub lambda_of : ℕ → ℕ → Float
-lambda_of code k = cond (eqb code 2 && eqb k 1) 1e-2 1e-4
+lambda_of code k = cond (is_scalar code k) 1e-2 1e-4
 
 abbrev pub first_lambda : Problem → Float
 first_lambda q = lambda_of q.code (k q)

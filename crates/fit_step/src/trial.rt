@@ -131,11 +131,7 @@ pub fn step_size(alpha: f64, d: &[f64]) -> f64
 pub fn first_lambda(q: &NlmmProblem<'_>) -> f64
     ensures { result ≡ first_lambda (checked q.now) }
 {
-    if q.curve == Curve::Ssasymp && q.effects.len() == 1 {
-        1e-2
-    } else {
-        1e-4
-    }
+    if q.is_scalar() { 1e-2 } else { 1e-4 }
 }
 
 // After a win.

@@ -7,7 +7,7 @@ use Rattle.math.specs.Basic.{abs_of, max_of, min_of, is_finite, one, half}
 use Rattle.math.specs.Loops.{iter}
 use Rattle.math.specs.Rationals.{over, minus, num}
 use Rattle.curves.specs.MeanFn.{n_params_of, scal_index_of}
-use Rattle.fit_refusals.specs.Problem.{problem_of}
+use Rattle.fit_refusals.specs.Problem.{problem_of, is_scalar}
 use Rattle.fit_step.specs.declared.State.{State}
 use Rattle.fit_step.specs.Lists.{each}
 use Rattle.fit_step.specs.Constants.{1e-2, 1e-4}
@@ -85,7 +85,7 @@ unfoldable pub lambdas : List Float
 lambdas = lambda_of 2 1 ∷ lambda_of 2 2 ∷ lambda_of 1 1 ∷ []
 
 pub lambdas_are : lambdas ≡ 1e-2 ∷ 1e-4 ∷ 1e-4 ∷ []
-unfolding lambdas lambda_of
+unfolding lambdas lambda_of is_scalar
 lambdas_are = refl
 
 -- the largest size of a direction, and that of half of it
