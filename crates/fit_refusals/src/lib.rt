@@ -7,6 +7,7 @@ ghost use Rattle.fit_refusals.specs.Problem.{problem_of, is_scalar};
 ghost use Rattle.fit_refusals.specs.Valid.{Valid};
 
 pub mod checks;
+pub mod faults;
 
 use curves::Curve;
 
