@@ -6,10 +6,8 @@ ghost use Rattle.fit_refusals.specs.Lists.{in_order};
 ghost use Rattle.fit_refusals.specs.Tests.{is_lower, is_upper, all_below, bad_readings, bad_groups, bad_effects};
 ghost use Rattle.fit_refusals.specs.Tests.{bad_lengths, bad_theta, bad_numbers, bad_order, bad_outputs, too_many};
 
-use crate::Problem;
+use crate::{MAX_READINGS, Problem};
 use math::all_finite;
-
-const MAX_READINGS: usize = 512;
 
 const MAX_GROUPS: usize = 32;
 
