@@ -8,7 +8,7 @@ use native.Mathlib.Omega.{arith}
 use borrow.Author.Tests.{ne_eqb}
 use lib.Dec.{eqb}
 use lib.ListN.{length}
-use Rattle.fit_refusals.specs.Tests.{all_below, bad_code, bad_readings, bad_groups, bad_effects, bad_outputs, too_many}
+use Rattle.fit_faults.specs.Tests.{all_below, bad_code, bad_readings, bad_groups, bad_effects, bad_outputs, too_many}
 use Rattle.fit_refusals.specs.Problem.{Problem, p, k}
 use Rattle.fit_refusals.specs.Valid.{Valid}
 use Rattle.fit_refusals.specs.laws.Valid.{sized, valid_of}

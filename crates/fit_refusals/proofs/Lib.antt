@@ -1,2 +1,1 @@
-mod Infinities
 mod Laws

@@ -4,37 +4,37 @@ ghost use Rattle.fit_refusals.specs.Given.{given, checked, number_in};
 ghost use Rattle.fit_refusals.specs.Faults.{first_of_eight, refusal_of, search_refusal_of};
 ghost use Rattle.fit_refusals.specs.Valid.{ValidFit, ValidSearch};
 
-use crate::faults::{all_below, too_many};
 use crate::{NlmmProblem, Problem};
 use curves::Curve;
+use fit_faults::{all_below, bad_effects, bad_groups, bad_readings, bad_theta, too_many};
 use math::all_finite;
 use refusal::Refusal;
 
 impl<'a> Problem<'a> {
     // 1 to 8; those of theta where it is read.
-    #[tactic(auto, using(crate::specs::laws::Codes::known), unfolding(crate::specs::Faults::first_from, crate::specs::Faults::first_of_eight, crate::specs::Tests::bad_code))]
+    #[tactic(auto, using(crate::specs::laws::Codes::known), unfolding(crate::specs::Faults::first_from, crate::specs::Faults::first_of_eight, fit_faults::specs::Tests::bad_code))]
     fn first_eight(&self, reads_theta: bool) -> Result<NlmmProblem<'a>, Refusal>
         ensures number { number_in result ≡ first_of_eight (given self.now) reads_theta }
         ensures same { IfOk result (λ q. checked q ≡ given self.now) }
     {
         let curve = Curve::try_from(self.code)?;
-        if self.bad_readings() {
+        if bad_readings(self.doses.len(), self.grams.len(), self.group.len()) {
             return Err(Refusal::Readings);
         }
-        if self.bad_groups() {
+        if bad_groups(self.groups) {
             return Err(Refusal::Groups);
         }
         if !all_below(self.group, self.groups) {
             return Err(Refusal::Group);
         }
         let p = curve.n_params();
-        if self.bad_effects(p) {
+        if bad_effects(p, self.effects) {
             return Err(Refusal::Effects);
         }
         if self.bad_lengths(p) {
             return Err(Refusal::Lengths);
         }
-        if reads_theta && self.bad_theta() {
+        if reads_theta && bad_theta(self.effects.len(), self.theta.len()) {
             return Err(Refusal::Lengths);
         }
         if self.bad_numbers() {

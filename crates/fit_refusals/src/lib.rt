@@ -10,9 +10,7 @@ pub mod checks;
 pub mod faults;
 
 use curves::Curve;
-
-// The most readings that there are.
-pub const MAX_READINGS: usize = 512;
+pub use fit_faults::MAX_READINGS;
 
 // A call's arguments, unchecked. A search is given no theta: it reads none.
 #[derive(Clone, Copy)]

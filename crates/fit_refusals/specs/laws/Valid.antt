@@ -10,8 +10,8 @@ use borrow.Author.Tests.{ltb-true, ltb-false, eqb-true, eqb-false, eq-eqb, not-f
 use Rattle.math.specs.Basic.{is_finite}
 use Rattle.math.specs.laws.Lists.{every_at}
 use Rattle.curves.specs.MeanFn.{n_params_of}
-use Rattle.fit_refusals.specs.laws.Lists.{order_at}
-use Rattle.fit_refusals.specs.Tests.{is_lower, is_upper, bad_code, bad_readings, bad_groups, bad_effects, bad_lengths, bad_theta, bad_numbers, bad_order, bad_outputs, too_many}
+use Rattle.fit_faults.specs.laws.Lists.{order_at}
+use Rattle.fit_faults.specs.Tests.{is_lower, is_upper, bad_code, bad_readings, bad_groups, bad_effects, bad_lengths, bad_theta, bad_numbers, bad_order, bad_outputs, too_many}
 use Rattle.fit_refusals.specs.Problem.{Problem, p, k, at_theta}
 use Rattle.fit_refusals.specs.Valid.{Sized, Valid, ValidFit, ValidSearch}
 use Rattle.fit_refusals.specs.Faults.{early, wrong_lengths, wrong_numbers, wrong_order, fit_later, search_later, first_from, refusal_of, search_refusal_of}
