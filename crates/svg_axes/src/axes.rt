@@ -6,6 +6,19 @@ use crate::ranges::Range;
 use math::words::{to_float, to_int};
 use text_floats::{Scaled, in_tens, nearest};
 
+// The frame: 600 wide from 70 at the left, 400 high from 50 at the top.
+const LEFT: f64 = 70.0;
+const RIGHT: f64 = 670.0;
+const WIDTH: f64 = 600.0;
+const TOP: f64 = 50.0;
+const BOTTOM: f64 = 450.0;
+const HEIGHT: f64 = 400.0;
+
+// A step is at least a fifth of the range, and has at most fifteen decimals; an end lies fewer steps from 0 than would be lost in rounding.
+const PARTS: f64 = 5.0;
+const MOST_DECIMALS: u64 = 15;
+const MOST_STEPS: f64 = 1e12;
+
 // From first * step to (first + count) * step, labelled with so many decimals.
 #[derive(Clone, Copy)]
 pub struct Axis {
@@ -59,7 +72,7 @@ fn stepped(r: Range, step: f64, decimals: u64) -> Option<Axis>
 {
     let lo = r.lo / step;
     let hi = r.hi / step;
-    if math::abs(lo) + math::abs(hi) < 1e12 {
+    if math::abs(lo) + math::abs(hi) < MOST_STEPS {
         let first = floor(lo);
         let count = nearest(-floor(-hi) - first);
         if count > 0 {
@@ -82,7 +95,7 @@ fn with_step(r: Range, m: f64, s: Scaled) -> Option<Axis>
     let n = s.power.unsigned_abs();
     if s.power >= 0 {
         stepped(r, m * ten_to(n), 0)
-    } else if n <= 15 {
+    } else if n <= MOST_DECIMALS {
         stepped(r, m / ten_to(n), n)
     } else {
         None
@@ -109,7 +122,7 @@ pub fn axis_of(range: Range) -> Option<Axis>
     ensures { result ≡ axis_of range }
 {
     let r = widened(range);
-    let raw = (r.hi - r.lo) / 5.0;
+    let raw = (r.hi - r.lo) / PARTS;
     if math::is_finite(raw) {
         let s = in_tens(raw);
         with_step(r, round_up(s.mantissa), s)
@@ -144,12 +157,12 @@ fn along(a: Axis, x: f64) -> f64
 pub fn x_pixel(a: Axis, x: f64) -> f64
     ensures { result ≡ x_pixel a x }
 {
-    clamp(70.0 + along(a, x) * 600.0, 70.0, 670.0)
+    clamp(LEFT + along(a, x) * WIDTH, LEFT, RIGHT)
 }
 
 #[tactic(auto, unfolding(crate::specs::Axes::y_pixel))]
 pub fn y_pixel(a: Axis, x: f64) -> f64
     ensures { result ≡ y_pixel a x }
 {
-    clamp(450.0 - along(a, x) * 400.0, 50.0, 450.0)
+    clamp(BOTTOM - along(a, x) * HEIGHT, TOP, BOTTOM)
 }

@@ -44,12 +44,16 @@ pub fn list_range(list: &[f64]) -> Range
     list.iter().fold(no_range(), |r, v| with(r, *v))
 }
 
-// A curve is drawn at 61 doses, the j-th of 0 to 60.
+// A curve is drawn in 60 pieces, between 61 doses.
+const PIECES: f64 = 60.0;
+pub const SAMPLES: u64 = 61;
+
+// The j-th of the doses, from 0.
 #[tactic(auto, unfolding(crate::specs::Ranges::sample_of))]
 pub fn sample(r: Range, j: u64) -> f64
     ensures { result ≡ sample_of r j }
 {
-    let t = std::num::nearest_u64_to_f64(j) / 60.0;
+    let t = std::num::nearest_u64_to_f64(j) / PIECES;
     math::min(r.lo + t * (r.hi - r.lo), r.hi)
 }
 
@@ -58,7 +62,7 @@ fn one_curve(grams: Range, s: &Subject<'_>, g: usize, doses: Range) -> Range
     ensures { result ≡ with_curve (shown s.now) doses g grams }
 {
     let mut r = grams;
-    for j in 0..61 {
+    for j in 0..SAMPLES {
         r = with(r, curve_at(s, g, sample(doses, j)));
     }
     r

@@ -1,9 +1,13 @@
-// What a report and a picture are about.
+// What a report and a picture are about, and the names of what they show.
+ghost use Rattle.std.specs.Prelude.{◌≡◌};
+ghost use Rattle.curves.specs.MeanFn.{code_of};
+ghost use Rattle.svg_axes.specs.Subject.{curve_name};
+
 use curves::Curve;
 use text_buffer::Span;
 
 // The readings, each of a canister; where the canisters' names stand in a text; the values of the curve, and each
-// canister's effect, which is added to the value at `place`.
+// canister's effect, which is added to the value at `place`. A list for each, as a fit takes them.
 #[derive(Clone, Copy)]
 pub struct Subject<'a> {
     pub curve: Curve,
@@ -15,4 +19,30 @@ pub struct Subject<'a> {
     pub names: &'a [Span],
     pub values: &'a [f64],
     pub effects: &'a [f64],
+}
+
+impl<'a> Subject<'a> {
+    ghost use Rattle.svg_axes.specs.Subject.{shown, name_of};
+
+    // Canister g's name, empty where there is none.
+    #[tactic(auto, unfolding(crate::specs::Subject::name_of))]
+    pub fn name(&self, g: usize) -> &[u8]
+        ensures { result.now ≡ name_of (shown self.now) g }
+    {
+        match self.names.get(g) {
+            Some(span) => span.of(self.text),
+            None => b"",
+        }
+    }
+}
+
+pub fn curve_name(curve: Curve) -> &'static [u8]
+    ensures { result.now ≡ curve_name (code_of curve) }
+{
+    match curve {
+        Curve::Sslogis => b"SSlogis",
+        Curve::Ssasymp => b"SSasymp",
+        Curve::Ssmicmen => b"SSmicmen",
+        Curve::Ssfpl => b"SSfpl",
+    }
 }

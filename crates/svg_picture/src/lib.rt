@@ -26,6 +26,7 @@ fn canister(out: &mut Text<'_>, s: &Subject<'_>, f: &Frame, g: usize)
     legend(out, s, g);
 }
 
+// A loop of its own, as other texts over a count have one: one for all would take a closure, and what it writes as a ghost value.
 #[tactic(auto, using(svg_marks::proofs::Laws::running))]
 fn canisters(out: &mut Text<'_>, s: &Subject<'_>, f: &Frame)
     ensures { out.new ≡ wrote out.old (each (canister_text (shown s.now) f.now) (length s.now.effects.now)) }

@@ -25,6 +25,7 @@ impl Span {
     }
 }
 
+// A lent buffer and not a String: the library crates have no heap. `full` is not read off `at`: what fills the buffer to its end has fitted.
 #[derive(Drop)]
 pub struct Text<'a> {
     out: &'a mut [u8],
@@ -68,6 +69,7 @@ impl<'a> Text<'a> {
     }
 
     // As much of the text as fits.
+    #[tactic(auto, unfolding(crate::specs::Text::wrote))]
     pub fn put(&mut self, text: &[u8])
         ensures { self.new ≡ wrote self.old text.now }
     {

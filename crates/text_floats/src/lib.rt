@@ -24,6 +24,7 @@ fn shifted(x: f64, d: u64) -> f64
 }
 
 // The whole number nearest to m, half way up; 0 where m is below 0 or not below 2^64.
+#[tactic(auto, using(crate::proofs::NearestLaws::is_between, crate::proofs::NearestLaws::is_low, crate::proofs::NearestLaws::is_high))]
 pub fn nearest(m: f64) -> u64
     ensures { result ≡ nearest_whole m }
 {
@@ -34,29 +35,34 @@ pub fn nearest(m: f64) -> u64
     }
 }
 
-// The point and d decimals of n / 10^d, where there are any.
+// n / 10^d, with d decimals.
+#[derive(Clone, Copy)]
+struct Decimal {
+    n: u64,
+    d: u64,
+    ghost few: { d ≤ 15 },
+}
+
+// The point and the decimals, where there are any.
 #[tactic(auto, using(crate::proofs::FloatLaws::fractions))]
-fn fraction(out: &mut Text<'_>, n: u64, d: u64)
-    requires { d ≤ 15 }
-    ensures { out.new ≡ wrote out.old (fraction_text n d) }
+fn fraction(out: &mut Text<'_>, v: Decimal)
+    ensures { out.new ≡ wrote out.old (fraction_text v.n v.d) }
 {
-    if d == 0 {
+    if v.d == 0 {
         return;
     }
     out.byte(b'.');
-    for k in (0..d as u32).rev() {
-        out.byte(b'0' + (n / 10u64.pow(k) % 10) as u8);
+    for k in (0..v.d as u32).rev() {
+        out.byte(b'0' + (v.n / 10u64.pow(k) % 10) as u8);
     }
 }
 
-// n / 10^d with d decimals.
 #[tactic(auto, using(text_buffer::specs::laws::Text::writing, crate::proofs::FloatLaws::ten_pos), unfolding(crate::specs::Floats::point_text))]
-fn point(out: &mut Text<'_>, n: u64, d: u64)
-    requires { d ≤ 15 }
-    ensures { out.new ≡ wrote out.old (point_text n d) }
+fn point(out: &mut Text<'_>, v: Decimal)
+    ensures { out.new ≡ wrote out.old (point_text v.n v.d) }
 {
-    out.whole(n / 10u64.pow(d as u32));
-    fraction(out, n, d);
+    out.whole(v.n / 10u64.pow(v.d as u32));
+    fraction(out, v);
 }
 
 // `-` before the digits of a number below 0 that does not round to 0.
@@ -70,12 +76,11 @@ fn sign(out: &mut Text<'_>, x: f64, n: u64)
 }
 
 #[tactic(auto, using(text_buffer::specs::laws::Text::writing), unfolding(crate::specs::Floats::signed_text))]
-fn signed(out: &mut Text<'_>, x: f64, n: u64, d: u64)
-    requires { d ≤ 15 }
-    ensures { out.new ≡ wrote out.old (signed_text x n d) }
+fn signed(out: &mut Text<'_>, x: f64, v: Decimal)
+    ensures { out.new ≡ wrote out.old (signed_text x v.n v.d) }
 {
-    sign(out, x, n);
-    point(out, n, d);
+    sign(out, x, v.n);
+    point(out, v);
 }
 
 // x with so many decimals; in scientific notation where the decimals or the digits would be more than 15, and nan, inf and -inf.
@@ -86,7 +91,11 @@ pub fn fixed(out: &mut Text<'_>, x: f64, decimals: u64)
     if decimals <= 15 {
         let m = shifted(x, decimals);
         if m < 1e15 {
-            return signed(out, x, nearest(m), decimals);
+            let v = Decimal {
+                n: nearest(m),
+                d: decimals,
+            };
+            return signed(out, x, v);
         }
     }
     scientific(out, x);
@@ -110,29 +119,29 @@ pub fn decimals(x: f64) -> u64
     reached(x, &POWERS).unwrap_or(11) as u64
 }
 
-// n / 10^d as another n and d, without the zeros at the end of its decimals.
+// Without the zeros at the end of its decimals.
 #[tactic(auto, unfolding(crate::specs::Floats::shortened))]
-fn shortened(n: u64, d: u64) -> (u64, u64)
-    ensures value { result ≡ shortened n d }
-    ensures bound { result.1 ≤ d }
+fn shortened(v: Decimal) -> Decimal
+    ensures { (result.n, result.d) ≡ shortened v.n v.d }
 {
-    let mut n = n;
-    let mut d = d;
+    let mut n = v.n;
+    let mut d = v.d;
+    // Both fall together while the last digit is 0, which no iterator says.
     while d > 0 && n % 10 == 0 {
         n /= 10;
         d -= 1;
     }
-    (n, d)
+    Decimal { n, d }
 }
 
 // |x| to seven significant digits.
 #[tactic(auto, unfolding(crate::specs::Floats::seven_significant))]
-fn seven_significant(x: f64) -> (u64, u64)
-    ensures value { result ≡ seven_significant x }
-    ensures bound { result.1 ≤ 15 }
+fn seven_significant(x: f64) -> Decimal
+    ensures { (result.n, result.d) ≡ seven_significant x }
 {
     let d = decimals(math::abs(x));
-    shortened(nearest(shifted(x, d)), d)
+    let n = nearest(shifted(x, d));
+    shortened(Decimal { n, d })
 }
 
 // x to seven significant digits, as R prints it: without zeros at the end, in scientific notation where x is very small or large.
@@ -142,8 +151,7 @@ pub fn figure(out: &mut Text<'_>, x: f64)
 {
     let size = math::abs(x);
     if size >= 1e-5 && size < 1e15 {
-        let (n, d) = seven_significant(x);
-        signed(out, x, n, d);
+        signed(out, x, seven_significant(x));
     } else {
         scientific(out, x);
     }
@@ -257,7 +265,7 @@ fn power(out: &mut Text<'_>, power: i64)
 fn powered(out: &mut Text<'_>, x: f64, d: Digits)
     ensures { out.new ≡ wrote out.old (powered_text x d) }
 {
-    signed(out, x, d.n, 6);
+    signed(out, x, Decimal { n: d.n, d: 6 });
     power(out, d.power);
 }
 
