@@ -14,7 +14,7 @@ use curves::Curve;
 // The most readings that there are.
 pub const MAX_READINGS: usize = 512;
 
-// A call's arguments, unchecked. A search is given no theta: it reads none.
+// A call's arguments, unchecked: lists apart from each other, as C lends them. A search is given no theta: it reads none.
 #[derive(Clone, Copy)]
 pub struct Problem<'a> {
     pub code: u64,
