@@ -13,8 +13,7 @@ use crate::run::inner_gauss_newton;
 use fit_refusals::{NlmmProblem, Problem};
 use refusal::Refusal;
 
-// What a fit answers besides the values and effects that it writes, as C's struct has it; whether it converged decides
-// none of the other three.
+// What a fit answers besides the values and effects that it writes; whether it converged decides none of the other three.
 #[derive(Clone, Copy)]
 pub struct Fitted {
     pub rss: f64,
