@@ -1,4 +1,4 @@
--- What a loop keeps, what holds at each place of a list, and what `alter` and `each` leave at a place. Assumes nothing.
+-- What a loop keeps, and what `alter` and `each` leave at a place. Assumes nothing.
 use mathlib.Core.Path.{◌≡◌, refl, sym, ap, ◌∙◌, subst}
 use mathlib.Core.Logic.{inl, inr}
 use mathlib.Core.List.{List, [], ◌∷◌}
@@ -18,16 +18,6 @@ module _ {A : Type 0} (P : A → Type 0) where
   unfolding iter
   iter_keeps f h zero a x = x
   iter_keeps f h (suc n) a x = h n (iter f n a) (iter_keeps f h n a x)
-
-  -- P of each element
-  abbrev pub All : List A → Type 0
-  All [] = Unit {0}
-  All (x ∷ l) = P x × All l
-
-  pub all_at : (d : A) (l : List A) → All l → (i : ℕ) → i < length l → P (get_or l i d)
-  all_at d [] h i b = absurd (not-suc-le-zero b)
-  all_at d (x ∷ l) h zero b = h.0
-  all_at d (x ∷ l) h (suc i) b = all_at d l h.1 i (le_of_suc-le-suc b)
 
 -- ---- lengths
 

@@ -62,8 +62,8 @@ fn run(
     end_with(&x, false, allowed, trials)
 }
 
-// The fit of a problem without fault, with room for a direction, of four curve values and two effects of 32
-// groups, and for the curves of all readings.
+// The fit of a problem without fault, with room, as there is no heap, for a direction, of four curve values and two
+// effects of 32 groups, and for the curves of all readings.
 #[tactic(auto, using(fit_step::specs::laws::Sized::params_most, fit_step::specs::laws::Sized::all_fit))]
 pub fn inner_gauss_newton(q: &NlmmProblem<'_>, allowed: usize) -> Ended
     requires { allowed ≤ 1000 }

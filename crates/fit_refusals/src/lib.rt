@@ -12,7 +12,7 @@ pub mod faults;
 use curves::Curve;
 pub use fit_faults::MAX_READINGS;
 
-// A call's arguments, unchecked. A search is given no theta: it reads none.
+// A call's arguments, unchecked: lists apart from each other, as C lends them. A search is given no theta: it reads none.
 #[derive(Clone, Copy)]
 pub struct Problem<'a> {
     pub code: u64,

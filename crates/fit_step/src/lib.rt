@@ -6,7 +6,7 @@ pub mod project;
 pub mod trial;
 
 // Four places for the curve values, of which the curve's own count, and 64 for the effects, group
-// after group.
+// after group: fixed, since the library has no heap.
 #[derive(Clone, Copy)]
 pub struct State {
     pub values: [f64; 4],

@@ -6,6 +6,7 @@ ghost use Rattle.fit_step.specs.Project.{clamp_of, project_of, slot_of, project_
 
 use fit_refusals::NlmmProblem;
 
+// By comparisons, for any bounds: the `clamp` of `f64` stops where lo is above hi.
 pub fn clamp(lo: f64, hi: f64, v: f64) -> f64
     ensures { result ≡ clamp_of lo hi v }
 {

@@ -43,7 +43,7 @@ fn adjust(v: f64) -> f64
     }
 }
 
-// As in the Rust by a comparison, which keeps a NaN: the `max` of `f64` does not.
+// By a comparison: a NaN stays, which `max` would drop.
 fn floor(v: f64) -> f64
     ensures { result ≡ floored v }
 {
@@ -84,7 +84,8 @@ pub fn start_state(q: &NlmmProblem<'_>) -> State
     }
 }
 
-// The first numbers of a list, as many as d has, by alpha times those of d.
+// The first numbers of a list, as many as d has, by alpha times those of d; not by `iter_mut` and `zip`, of which nothing
+// is known to a proof.
 #[tactic(auto, using(math::specs::laws::Loops::turns), unfolding(crate::specs::Trial::moved_of, crate::specs::Lists::each))]
 fn advance(list: &mut [f64], d: &[f64], alpha: f64)
     requires { length d.now ≤ length list.old }

@@ -1,25 +1,32 @@
 // The covariance of one or two random effects from packed theta (re_cov.rs), and one group's penalty.
 // k is the number of effects: 1, and any other counts as 2. Theta holds the lower factor by columns,
 // one number or three. For one effect the entries that are not used are +0.
-// k and theta stay two parameters, as in the Rust: every caller has them apart, and a struct would be made for the call alone.
+// k and theta stay two parameters, as in the Rust: each contract holds of every k beside every theta, so theta's length does not tell k.
 #![tactic(auto)]
 
 ghost use Rattle.std.specs.Prelude.{◌≡◌};
 ghost use Rattle.re_cov.specs.ReCov.{lower_chol_of, dot_of, sigma_of, inverse_from, inverse_of, log_det_of, lower_solve_of, penalty_of};
 
-// The lower factor; its diagonal is not below 1e-8.
+// What an entry of the lower factor's diagonal is at least, what is divided by in the inverse, and in `lower_solve`.
+const LEAST_DIAGONAL: f64 = 1e-8;
+
+const LEAST_DETERMINANT: f64 = 1e-16;
+
+const LEAST_DIVISOR: f64 = 1e-12;
+
+// The lower factor.
 #[tactic(auto, unfolding(crate::specs::ReCov::lower_chol_of))]
 pub fn lower_chol(k: usize, theta: &[f64]) -> [[f64; 2]; 2]
     ensures { result ≡ lower_chol_of k theta.now }
 {
     let first = math::at(theta, 0);
-    let a = math::max(first, 1e-8);
+    let a = math::max(first, LEAST_DIAGONAL);
     if k == 1 {
         return [[a, 0.0], [0.0, 0.0]];
     }
     let b = math::at(theta, 1);
     let last = math::at(theta, 2);
-    [[a, 0.0], [b, math::max(last, 1e-8)]]
+    [[a, 0.0], [b, math::max(last, LEAST_DIAGONAL)]]
 }
 
 // The product of two rows of two, from 0.
@@ -45,17 +52,17 @@ pub fn sigma_from_theta(k: usize, theta: &[f64]) -> [[f64; 2]; 2]
     ]
 }
 
-// The inverse in closed form; what it divides by is not below 1e-16.
+// The inverse in closed form.
 #[tactic(auto, unfolding(crate::specs::ReCov::inverse_from, crate::specs::ReCov::det_of))]
 fn inverse(k: usize, sigma: [[f64; 2]; 2]) -> [[f64; 2]; 2]
     ensures { result ≡ inverse_from k sigma }
 {
     let [[a, b], [c, d]] = sigma;
     if k == 1 {
-        let v = math::max(a, 1e-16);
+        let v = math::max(a, LEAST_DETERMINANT);
         return [[1.0 / v, 0.0], [0.0, 0.0]];
     }
-    let det = math::max(a * d - b * c, 1e-16);
+    let det = math::max(a * d - b * c, LEAST_DETERMINANT);
     [[d / det, -b / det], [-c / det, a / det]]
 }
 
@@ -85,11 +92,11 @@ pub fn lower_solve(k: usize, theta: &[f64], rhs: &[f64]) -> [f64; 2]
     ensures { result ≡ lower_solve_of k theta.now rhs.now }
 {
     let l = lower_chol(k, theta);
-    let x = math::at(rhs, 0) / math::max(l[0][0], 1e-12);
+    let x = math::at(rhs, 0) / math::max(l[0][0], LEAST_DIVISOR);
     if k == 1 {
         return [x, 0.0];
     }
-    let y = (math::at(rhs, 1) - l[1][0] * x) / math::max(l[1][1], 1e-12);
+    let y = (math::at(rhs, 1) - l[1][0] * x) / math::max(l[1][1], LEAST_DIVISOR);
     [x, y]
 }
 
