@@ -139,9 +139,6 @@ module _ (q : Problem) (valid : Valid q) where
 
   -- ---- a trial
   module _ (s : State) (d : List Float) (alpha : Float) (b : InBounds q s) (sound : Sound (p q) (k q) q.groups d) (a : T (short alpha)) where
-    within : (i n m l : ℕ) → i < n → l ≡ n + m → 0 + i < l
-    within i n m l x e = omega arith
-
     moved_numbers : Numbers (p q) (moved_of (p q) 0 d alpha s.values)
     unfolding moved_of
     moved_numbers i x =
@@ -149,7 +146,7 @@ module _ (q : Problem) (valid : Valid q) where
         subst (λ (v : Float). is_nan v ≡ false)
         (sym (each_at_lem (moved_at 0 d alpha) s.values (p q) i x (subst (λ (n : ℕ). i < n) (sym b.size) (reach i x))))
         (add_number (get_or s.values i nan) (mul alpha step) (b.inside i x).number
-        (mul_finite alpha step a (sound.held (0 + i)) (every_at is_finite d (0 + i) nan sound.finite (within i (p q) (q.groups * k q) (length d) x sound.size))))
+        (mul_finite alpha step a (sound.held (0 + i)) (every_at is_finite d (0 + i) nan sound.finite (omega (arith, x, sound.size)))))
 
     moved_length : (n at : ℕ) (l : List Float) → length (moved_of n at d alpha l) ≡ length l
     unfolding moved_of

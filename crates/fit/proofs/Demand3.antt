@@ -3,7 +3,7 @@
 use mathlib.Core.Path.{◌≡◌, refl, sym, ap, subst}
 use mathlib.Core.Bool.{Bool, true, false, cond}
 use mathlib.Core.List.{List, [], ◌∷◌}
-use Prim.Native.Nat.{ℕ, zero, suc, ◌+◌, ◌-◌, ◌*◌, ◌≤◌, ◌<◌}
+use Prim.Native.Nat.{ℕ, zero, suc, ◌-◌, ◌*◌, ◌≤◌, ◌<◌}
 use native.Mathlib.Nat.{le_of_suc-le-suc, not-suc-le-zero}
 use native.Mathlib.Omega.{arith}
 use lib.Ieee.{Float, lt}
@@ -96,12 +96,9 @@ whole q allowed t valid g =
       trials = λ i h. (All-from_recursion (Tried q) t.trials g.trials i no_trial h).0;
       sums = λ i h. (All-from_recursion (Tried q) t.trials g.trials i no_trial h).1;
       counted = refl;
-      few = plain (length t.trials) (240 * t.rounds) g.few;
+      few = omega (arith, g.few);
       begun = g.begun;
     }
-  where
-    plain : (l r : ℕ) → l ≤ 0 + r → l ≤ r
-    plain l r a = omega arith
 
 pub demand3 : (q : Problem) (values effects allowed : ℕ) → refusal_of q values effects allowed ≡ 0 → Claim.Demand3 q allowed (fit_of q allowed)
 unfolding fit_of trace_of

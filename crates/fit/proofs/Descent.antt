@@ -59,13 +59,7 @@ module _ (q : Problem) where
     ended_law c b = record { accepts = refl; trials = tt; few = omega arith; begun = omega arith }
 
     more : (c d : ℕ) (t : Trace) → c ≤ d → TraceLaw n c old t → TraceLaw n d old t
-    more c d t h g = record { accepts = g.accepts; trials = g.trials; few = wider (length t.trials) (240 * t.rounds) g.few h; begun = g.begun }
-      where
-        wider : (l r : ℕ) → l ≤ c + r → c ≤ d → l ≤ d + r
-        wider l r a b = omega arith
-
-    longer : (c l r : ℕ) → l ≤ c + r → suc l ≤ suc c + r
-    longer c l r a = omega arith
+    more c d t h g = record { accepts = g.accepts; trials = g.trials; few = omega (arith, g.few, h); begun = g.begun }
 
     -- a lost trial, and what follows on the old state
     lost_law : (c : ℕ) (z : State) (t : Trace) → InBounds q z → lt (sum_of q z) old ≡ false → TraceLaw n c old t → TraceLaw n (suc c) old (tried z (sum_of q z) t)
@@ -74,7 +68,7 @@ module _ (q : Problem) where
         record {
           accepts = pick_false (lt (sum_of q z) old) (z ∷ winners_of (sum_of q z) t.trials) (winners_of old t.trials) h ∙ g.accepts;
           trials = ((b, refl), g.trials);
-          few = longer c (length t.trials) (240 * t.rounds) g.few;
+          few = omega (arith, g.few);
           begun = g.begun;
         }
 
@@ -86,19 +80,13 @@ module _ (q : Problem) where
         record {
           accepts = pick_true (lt (sum_of q z) old) (z ∷ winners_of (sum_of q z) t.trials) (winners_of old t.trials) h ∙ ap (λ (l : List State). z ∷ l) g.accepts;
           trials = ((b, refl), g.trials);
-          few = longer c (length t.trials) (240 * t.rounds) g.few;
+          few = omega (arith, g.few);
           begun = g.begun;
         }
 
     begun_law : (t : Trace) → TraceLaw n 240 old t → TraceLaw (suc n) 0 old (begun t)
     begun_law t g =
-        record { accepts = g.accepts; trials = g.trials; few = next (length t.trials) t.rounds g.few; begun = up t.rounds g.begun }
-      where
-        next : (l r : ℕ) → l ≤ 240 + 240 * r → l ≤ 0 + 240 * (r + 1)
-        next l r a = omega arith
-
-        up : (r : ℕ) → r ≤ n → r + 1 ≤ suc n
-        up r a = omega arith
+        record { accepts = g.accepts; trials = g.trials; few = omega (arith, g.few); begun = omega (arith, g.begun) }
 
   module _ (valid : Valid q) where
     -- ---- one round, after which n more may begin; `onward` goes on from a winner

@@ -21,10 +21,7 @@ then_later n m = cond (eqb n 0) m n
 first_then : (i : ℕ) (a b : List Bool) → 0 < i → first_from i (a ++ b) ≡ then_later (first_from i a) (first_from (i + length a) b)
 unfolding first_from
 first_then i [] b h = rw (add-zero i)
-first_then i (true ∷ a) b h = let e : eqb i 0 ≡ false = ne_eqb i 0 (λ z. none z h) in rw e
-  where
-    none : i ≡ 0 → 0 < i → ⊥
-    none z h = omega arith
+first_then i (true ∷ a) b h = let e : eqb i 0 ≡ false = ne_eqb i 0 (λ z. omega (arith, z, h)) in rw e
 first_then i (false ∷ a) b h = let e : i + suc (length a) ≡ suc i + length a = omega arith in rw e (first_then (suc i) a b (zero-lt-suc i))
 
 module _ (q : Problem) where

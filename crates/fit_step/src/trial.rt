@@ -1,4 +1,4 @@
-// The start of a fit, the state that a trial tries, the sizes of a direction and of a step, and lambda.
+// The start of a fit, the state that a trial tries, the size of a step, and lambda.
 ghost use Rattle.std.specs.Prelude.{◌≡◌, ◌≤◌, Float, length};
 ghost use Rattle.curves.specs.MeanFn.{code_of};
 ghost use Rattle.fit_refusals.specs.Problem.{p, direction_length};
@@ -131,7 +131,7 @@ pub fn try_step(q: &NlmmProblem<'_>, s: &State, d: &[f64], alpha: f64) -> State
     State { values, effects }
 }
 
-// The size of the largest component of alpha times d.
+// The size of the largest component of alpha times d: `math::largest` of products that stand in no list.
 #[tactic(auto, unfolding(math::specs::Lists::largest_of, crate::specs::Trial::step_of))]
 pub fn step_size(alpha: f64, d: &[f64]) -> f64
     ensures { result ≡ step_of alpha d.now }

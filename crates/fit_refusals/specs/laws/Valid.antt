@@ -23,10 +23,7 @@ use Rattle.fit_refusals.specs.Faults.{early, wrong_lengths, wrong_numbers, wrong
 
 pub first_none : (i : ℕ) (b : Bool) (l : List Bool) → 0 < i → first_from i (b ∷ l) ≡ 0 → (b ≡ false) × (first_from (suc i) l ≡ 0)
 unfolding first_from
-first_none i true l p h = absurd (none i p h)
-  where
-    none : (i : ℕ) → 0 < i → i ≡ 0 → ⊥
-    none i p h = omega arith
+first_none i true l p h = let no : ⊥ = omega (arith, p, h) in absurd no
 first_none i false l p h = (refl, h)
 
 none_at : (i : ℕ) (l : List Bool) → 0 < i → first_from i l ≡ 0 → (j : ℕ) → get_or l j false ≡ false
@@ -135,9 +132,6 @@ module _ (q : Problem) (values effects rounds : ℕ) (ok : refusal_of q values e
         few_rounds = ltb-false _ _ (no_fault 9);
       }
 
-one_of_two : {n : ℕ} → 1 ≤ n → n ≤ 2 → (n ≡ 2 → ⊥) → n ≡ 1
-one_of_two a b h = omega arith
-
 one_theta : (n : ℕ) → eqb n 2 ≡ false → bad_theta n 1 ≡ false
 unfolding bad_theta
 one_theta n h = rw h
@@ -155,7 +149,7 @@ module _ (q : Problem) (rounds narrowings : ℕ) (ok : search_refusal_of q round
       let two = or_parts _ _ ten.0 in
       record {
         valid = valid_of q size (no_search_fault 5) (no_search_fault 6) (no_search_fault 7);
-        one_effect = one_of_two size.effects_low size.effects_high (eqb-false _ _ two.1);
+        one_effect = omega (arith, size.effects_low, size.effects_high, eqb-false _ _ two.1);
         few_rounds = ltb-false _ _ two.0;
         few_narrowings = ltb-false _ _ ten.1;
       }
