@@ -6,7 +6,6 @@
 ghost use Rattle.std.specs.Prelude.{◌≡◌, ◌≤◌, ◌+◌, ◌*◌, length};
 ghost use Rattle.fit_refusals.specs.Problem.{p, k};
 ghost use Rattle.fit_refusals.specs.Given.{checked};
-ghost use Rattle.fit_step.specs.Trial.{tried_of};
 ghost use Rattle.fit_penalized.specs.Penalized.{Means};
 ghost use Rattle.fit_round.specs.Rounds.{evaluated_of, ComesTo, Kept};
 
@@ -16,6 +15,13 @@ use fit_penalized::{evaluate, penalties};
 use fit_refusals::NlmmProblem;
 use fit_step::State;
 use fit_step::trial::{largest, lower_lambda, raise_lambda, step_size, try_step};
+
+// How many attempts a round has, how many lengths an attempt, and below what a proposal ends the fit as converged.
+const ATTEMPTS: usize = 12;
+
+const LENGTHS: usize = 20;
+
+const NEAR: f64 = 1e-10;
 
 // A state with its rss and its penalised sum.
 #[derive(Clone, Copy)]
@@ -33,7 +39,7 @@ pub struct Winner {
     pub step: f64,
 }
 
-// How a round ends: with a winner; with a proposal below 1e-10; or without a direction, or with no attempt left.
+// How a round ends: with a winner; with a proposal below NEAR; or without a direction, or with no attempt left.
 #[derive(Clone, Copy)]
 pub enum End {
     Won(Winner),
@@ -70,22 +76,6 @@ pub fn evaluate_state(q: &NlmmProblem<'_>, state: State, means: &mut [Mean; 512]
     Evaluated { state, rss, sum }
 }
 
-// One trial: the state at length alpha of the direction d, after floor and projection.
-fn trial(
-    q: &NlmmProblem<'_>,
-    s: &State,
-    d: &[f64],
-    alpha: f64,
-    means: &mut [Mean; 512],
-) -> Evaluated
-    requires { length d.now ≡ p (checked q.now) + q.now.groups * k (checked q.now) }
-    ensures tried { result.state ≡ tried_of (checked q.now) s.now d.now alpha }
-    ensures sums { result ≡ evaluated_of (checked q.now) result.state }
-    ensures kept { Means (checked q.now) result.state means.new }
-{
-    evaluate_state(q, try_step(q, s, d, alpha), means)
-}
-
 // One round: up to 12 attempts of 20 lengths each. The first winner leaves both.
 pub fn round(
     q: &NlmmProblem<'_>,
@@ -105,22 +95,22 @@ pub fn round(
     let mut lambda = first;
     let mut trials = 0;
     let mut end = End::Lost;
-    'attempts: for attempt in 0..12usize {
+    'attempts: for attempt in 0..ATTEMPTS {
         if !n.solve(p, k, q.groups, lambda, d) {
             return Outcome {
                 end: End::Lost,
                 trials,
             };
         }
-        if largest(d) < 1e-10 {
+        if largest(d) < NEAR {
             return Outcome {
                 end: End::Converged,
                 trials,
             };
         }
         let mut alpha = 1.0;
-        for t in 0..20usize {
-            let y = trial(q, &x.state, d, alpha, means);
+        for t in 0..LENGTHS {
+            let y = evaluate_state(q, try_step(q, &x.state, d, alpha), means);
             trials += 1;
             if y.sum < x.sum {
                 end = End::Won(Winner {

@@ -69,7 +69,7 @@ loop-t-preserved c =
       lost = M.invariant.lost;
       whole = λ win r u.
           let e : u + (M.trials + 1) ≡ u + M.trials + 1 = omega arith in
-          rw e (sym (lengths_lose _ _ _ _ win r (u + M.trials) _ _ _ 20 M.t M.alpha c.trial-y.result c.loop-t-test.true c.trial-y.ensures.tried (sum_of_lem _ _ c.trial-y.ensures.sums) c.if-y-x.false) ∙ M.invariant.whole win r u);
+          rw e (sym (lengths_lose _ _ _ _ win r (u + M.trials) _ _ _ 20 M.t M.alpha c.evaluate_state-y.result c.loop-t-test.true (c.evaluate_state-y.ensures.same ∙ c.try_step.ensures) (sum_of_lem _ _ c.evaluate_state-y.ensures.sums) c.if-y-x.false) ∙ M.invariant.whole win r u);
     }
 
 pub attempts-preserved : goal.attempts-preserved
@@ -94,4 +94,4 @@ returns-then-y-x-clause-comes c =
     let e : u + (M.trials + 1) ≡ u + M.trials + 1 = omega arith in
     rw (e, c.lower_lambda.ensures, c.step_size.ensures)
     (sym (M.invariant.whole win r u)
-    ∙ lengths_win _ _ _ _ win r (u + M.trials) _ _ _ 20 M.t M.alpha c.trial-y.result c.loop-t-test.true c.trial-y.ensures.tried (sum_of_lem _ _ c.trial-y.ensures.sums) c.if-y-x.true)
+    ∙ lengths_win _ _ _ _ win r (u + M.trials) _ _ _ 20 M.t M.alpha c.evaluate_state-y.result c.loop-t-test.true (c.evaluate_state-y.ensures.same ∙ c.try_step.ensures) (sum_of_lem _ _ c.evaluate_state-y.ensures.sums) c.if-y-x.true)
