@@ -76,7 +76,7 @@ impl BlockNormal {
 
     // Whether there is a direction for p curve values, k effects and groups groups; it is then in out.
     // A zero pivot and arguments that do not fit leave out as it was.
-    // A flag beside a lent list, not an Option: an array would have to be as long as the longest direction.
+    // A flag beside the lent list: of an Option<&[f64]> that lends it back, what out ends as takes an ensures*, which has no proof here.
     pub fn solve(self, p: usize, k: usize, groups: usize, damping: f64, out: &mut [f64]) -> bool
         ensures { (result ≡ is_direction (solved_of self p k groups damping (length out.old))) × (out.new ≡ left_in (solved_of self p k groups damping (length out.old)) out.old) }
     {

@@ -94,8 +94,7 @@ pub fn round(
     let k = q.effects.len();
     let mut lambda = first;
     let mut trials = 0;
-    let mut end = End::Lost;
-    'attempts: for attempt in 0..ATTEMPTS {
+    for attempt in 0..ATTEMPTS {
         if !n.solve(p, k, q.groups, lambda, d) {
             return Outcome {
                 end: End::Lost,
@@ -113,16 +112,17 @@ pub fn round(
             let y = evaluate_state(q, try_step(q, &x.state, d, alpha), means);
             trials += 1;
             if y.sum < x.sum {
-                end = End::Won(Winner {
+                let end = End::Won(Winner {
                     at: y,
                     lambda: lower_lambda(lambda),
                     step: step_size(alpha, d),
                 });
-                break 'attempts;
+                return Outcome { end, trials };
             }
             alpha *= 0.5;
         }
         lambda = raise_lambda(lambda);
     }
+    let end = End::Lost;
     Outcome { end, trials }
 }

@@ -141,7 +141,8 @@ fn write_effects(out: &mut [f64], x: f64, y: f64)
     out.copy_from_slice(&[x, y][..n]);
 }
 
-// The direction, from the fixed values x and the groups' solutions; whether each of its components is finite.
+// The direction, from the fixed values x and the groups' solutions; whether each of its components is finite, a flag
+// beside the lent list as solve's in block_solve is, and for its reason.
 #[tactic(auto, using(linalg::specs::laws::Loops::loops, crate::proofs::Laws::parts), unfolding(crate::specs::laws::Steps::component_steps))]
 pub fn write_direction(out: &mut [f64], shape: Shape, x: [f64; 4], solved: &[Solution; 32]) -> bool
     requires { length out.old ≡ shape.p + shape.groups * shape.k }
