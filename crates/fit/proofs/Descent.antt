@@ -19,7 +19,8 @@ use Rattle.block_solve.proofs.Sound.{Sound, direction_sound}
 use Rattle.fit_refusals.specs.Problem.{Problem, p, k}
 use Rattle.fit_refusals.specs.Valid.{Valid}
 use Rattle.fit_step.specs.declared.State.{State}
-use Rattle.fit_step.specs.Trial.{tried_of, largest_of, step_of, lowered, raised}
+use Rattle.math.specs.Lists.{largest_of}
+use Rattle.fit_step.specs.Trial.{tried_of, step_of, lowered, raised}
 use Rattle.fit_penalized.specs.Penalized.{sum_of}
 use Rattle.fit_penalized.specs.Normal.{normal_of}
 use Rattle.fit_round.specs.Round.{1e-10, Trial, Trace, ended, tried, direction, lengths, along, attempts}

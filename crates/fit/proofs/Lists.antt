@@ -6,7 +6,8 @@ use Prim.Native.Nat.{ℕ, zero, suc, ◌≤◌, ◌<◌}
 use native.Mathlib.Nat.{eq-or-lt_of_le, le_of_suc-le-suc, not-suc-le-zero}
 use native.Mathlib.Omega.{arith}
 use lib.Ieee.{Float, nan}
-use lib.ListN.{length, get_or, length-set}
+use lib.ListN.{length, get_or, take, replicate, length-set, length-replicate}
+use Rattle.std.proofs.lemmas.List.{length-take-le}
 use lib.Seq.{get_or-set_same, get_or-set_other}
 use Rattle.math.specs.Loops.{iter}
 use Rattle.fit_step.specs.Lists.{alter, each_at, each}
@@ -37,6 +38,10 @@ iter_length f h n l = iter_keeps (λ r. length r ≡ length l) f (λ i r e. h i 
 pub each_length : (f : ℕ → Float → Float) (n : ℕ) (l : List Float) → length (each f n l) ≡ length l
 unfolding each
 each_length f n l = iter_length (each_at f) (λ i r. length-set r i (f i (get_or r i nan))) n l
+
+-- the first n of a direction's 68 places
+pub some_places : (n : ℕ) (x : Float) → n ≤ 68 → length (take n (replicate 68 x)) ≡ n
+some_places n x h = length-take-le n (replicate 68 x) (rw length-replicate h)
 
 -- ---- one place altered, and each of the first n
 

@@ -1,13 +1,18 @@
 // What a fit, a criterion and a search are given, and the same once it is checked by document 01's numbered faults.
 #![tactic(auto)]
 
+ghost use Rattle.std.specs.Prelude.{◌≡◌, length};
 ghost use Rattle.curves.specs.MeanFn.{code_of};
-ghost use Rattle.fit_refusals.specs.Problem.{problem_of};
+ghost use Rattle.fit_refusals.specs.Problem.{problem_of, is_scalar};
 ghost use Rattle.fit_refusals.specs.Valid.{Valid};
 
 pub mod checks;
+pub mod faults;
 
 use curves::Curve;
+
+// The most readings that there are.
+pub const MAX_READINGS: usize = 512;
 
 // A call's arguments, unchecked. A search is given no theta: it reads none.
 #[derive(Clone, Copy)]
@@ -27,6 +32,7 @@ pub struct Problem<'a> {
 }
 
 // A problem without the faults 1 to 8, theta's aside: `Problem::for_fit` and `Problem::for_search` make it.
+// The lists stand here again, and no `Problem` within: its code would stand beside the curve, and each list be one name further away.
 #[derive(Clone, Copy)]
 pub struct NlmmProblem<'a> {
     pub curve: Curve,
@@ -44,4 +50,14 @@ pub struct NlmmProblem<'a> {
     pub ghost valid: { Valid
         (problem_of (code_of curve) doses.now grams.now group.now groups effects.now
         starts.now lower.now upper.now group_lower.now group_upper.now theta.now) },
+}
+
+impl NlmmProblem<'_> {
+    // Curve 2 with one effect, whose criterion and first lambda are of their own (the Rust's `scalar_ssasymp`).
+    #[tactic(auto, unfolding(crate::specs::Problem::is_scalar))]
+    pub fn is_scalar(&self) -> bool
+        ensures { result ≡ is_scalar (code_of self.now.curve) (length self.now.effects.now) }
+    {
+        self.effects.len() == 1 && self.curve == Curve::Ssasymp
+    }
 }

@@ -14,7 +14,8 @@ use curves::Mean;
 use fit_penalized::{evaluate, penalties};
 use fit_refusals::NlmmProblem;
 use fit_step::State;
-use fit_step::trial::{largest, lower_lambda, raise_lambda, step_size, try_step};
+use fit_step::trial::{lower_lambda, raise_lambda, step_size, try_step};
+use math::largest;
 
 // How many attempts a round has, how many lengths an attempt, and below what a proposal ends the fit as converged.
 const ATTEMPTS: usize = 12;

@@ -4,15 +4,16 @@ use Rattle.std.specs.Float.Ieee.{round, of_bits}
 use Rattle.std.specs.Float.{inf}
 use Rattle.std.specs.Float.Ieee as Ieee
 use Rattle.math.specs.Basic.{abs_of, max_of, min_of, is_finite, one, half}
+use Rattle.math.specs.Lists.{largest_of}
 use Rattle.math.specs.Loops.{iter}
 use Rattle.math.specs.Rationals.{over, minus, num}
 use Rattle.curves.specs.MeanFn.{n_params_of, scal_index_of}
-use Rattle.fit_refusals.specs.Problem.{problem_of}
+use Rattle.fit_refusals.specs.Problem.{problem_of, is_scalar}
 use Rattle.fit_step.specs.declared.State.{State}
 use Rattle.fit_step.specs.Lists.{each}
 use Rattle.fit_step.specs.Constants.{1e-2, 1e-4}
 use Rattle.fit_step.specs.Project.{project_of, slot_of, project_groups}
-use Rattle.fit_step.specs.Trial.{on_scal, started, start_of, moved_of, values_tried, effects_tried, tried_of, largest_of, step_of, lambda_of, lowered, raised}
+use Rattle.fit_step.specs.Trial.{on_scal, started, start_of, moved_of, values_tried, effects_tried, tried_of, step_of, lambda_of, lowered, raised}
 
 -- `unfolding state_computes` opens all that the values of this crate are computed by
 unfoldable pub state_computes : Unit {0}
@@ -85,7 +86,7 @@ unfoldable pub lambdas : List Float
 lambdas = lambda_of 2 1 ∷ lambda_of 2 2 ∷ lambda_of 1 1 ∷ []
 
 pub lambdas_are : lambdas ≡ 1e-2 ∷ 1e-4 ∷ 1e-4 ∷ []
-unfolding lambdas lambda_of
+unfolding lambdas lambda_of is_scalar
 lambdas_are = refl
 
 -- the largest size of a direction, and that of half of it
