@@ -9,7 +9,7 @@ ghost use Rattle.fit_penalized.specs.Normal.{fixed_gradients, random_gradients, 
 
 use block_solve::normal::BlockNormal;
 use curves::Mean;
-use fit_refusals::NlmmProblem;
+use fit_refusals::{MAX_READINGS, NlmmProblem};
 use fit_step::State;
 
 // The gradient by value j, or zero where its bounds are equal. Past the curve's last value there are none.
@@ -64,7 +64,7 @@ fn add_reading(q: &NlmmProblem<'_>, i: usize, y: Mean, n: &mut BlockNormal)
 
 // The readings in order, from their curves in means.
 #[tactic(auto, using(math::specs::laws::Loops::turns), unfolding(crate::specs::Normal::readings_of))]
-fn readings(q: &NlmmProblem<'_>, s: &State, means: &[Mean; 512]) -> BlockNormal
+fn readings(q: &NlmmProblem<'_>, s: &State, means: &[Mean; MAX_READINGS]) -> BlockNormal
     requires { Means (checked q.now) s.now means.now }
     ensures { result ≡ readings_of (checked q.now) s.now }
 {
@@ -80,7 +80,7 @@ fn readings(q: &NlmmProblem<'_>, s: &State, means: &[Mean; 512]) -> BlockNormal
 pub fn normal(
     q: &NlmmProblem<'_>,
     s: &State,
-    means: &[Mean; 512],
+    means: &[Mean; MAX_READINGS],
     inverse: [[f64; 2]; 2],
 ) -> BlockNormal
     requires { Means (checked q.now) s.now means.now }

@@ -4,7 +4,7 @@
 #![tactic(auto)]
 
 ghost use Rattle.std.specs.Prelude.{◌≡◌, ◌≤◌, ◌+◌, ◌*◌, length};
-ghost use Rattle.fit_refusals.specs.Problem.{p, k};
+ghost use Rattle.fit_refusals.specs.Problem.{direction_length};
 ghost use Rattle.fit_refusals.specs.Given.{checked};
 ghost use Rattle.fit_penalized.specs.Penalized.{Means};
 ghost use Rattle.fit_round.specs.Rounds.{evaluated_of, ComesTo, Kept};
@@ -12,7 +12,7 @@ ghost use Rattle.fit_round.specs.Rounds.{evaluated_of, ComesTo, Kept};
 use block_solve::normal::BlockNormal;
 use curves::Mean;
 use fit_penalized::{evaluate, penalties};
-use fit_refusals::NlmmProblem;
+use fit_refusals::{MAX_READINGS, NlmmProblem};
 use fit_step::State;
 use fit_step::trial::{lower_lambda, raise_lambda, step_size, try_step};
 use math::largest;
@@ -67,7 +67,7 @@ pub struct Ended {
 
 // The rss and the penalised sum of a state; its curves are left in means.
 #[tactic(auto, using(fit_step::specs::laws::Sized::all_fit), unfolding(fit_penalized::specs::Penalized::sum_of))]
-pub fn evaluate_state(q: &NlmmProblem<'_>, state: State, means: &mut [Mean; 512]) -> Evaluated
+pub fn evaluate_state(q: &NlmmProblem<'_>, state: State, means: &mut [Mean; MAX_READINGS]) -> Evaluated
     ensures same { result.state ≡ state }
     ensures sums { result ≡ evaluated_of (checked q.now) result.state }
     ensures kept { Means (checked q.now) result.state means.new }
@@ -84,9 +84,9 @@ pub fn round(
     n: BlockNormal,
     first: f64,
     d: &mut [f64],
-    means: &mut [Mean; 512],
+    means: &mut [Mean; MAX_READINGS],
 ) -> Outcome
-    requires { length d.old ≡ p (checked q.now) + q.now.groups * k (checked q.now) }
+    requires { length d.old ≡ direction_length (checked q.now) }
     ensures comes { ComesTo (checked q.now) x.now n first result }
     ensures few { result.trials ≤ 240 }
     ensures kept { Kept (checked q.now) means.new result.end }
