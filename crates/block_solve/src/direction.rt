@@ -30,7 +30,7 @@ impl BlockNormal {
         }
     }
 
-    // Group g's part, its block damped.
+    // Group g's part, its block damped, out of the flat arrays.
     fn group(&self, g: usize, damping: f64) -> Group
         requires { g < 32 }
         ensures { result ≡ group_of self.now g damping }
@@ -74,7 +74,7 @@ impl BlockNormal {
         Some(e)
     }
 
-    // Whether there is a direction for p curve values, k effects and groups groups; it is then in out.
+    // Whether there is a direction for p curve values, k effects and groups groups, whatever they are, so no Shape; it is then in out.
     // A zero pivot and arguments that do not fit leave out as it was.
     // A flag beside the lent list: of an Option<&[f64]> that lends it back, what out ends as takes an ensures*, which has no proof here.
     pub fn solve(self, p: usize, k: usize, groups: usize, damping: f64, out: &mut [f64]) -> bool

@@ -1,5 +1,5 @@
 // The normal blocks of at most four curve values, two effects and 32 groups.
-#![tactic(auto, using(crate::proofs::Blocks::blocks, crate::specs::laws::Blocks::reading_lent), unfolding(crate::specs::Blocks::products_of, crate::specs::Blocks::multiples_of, crate::specs::laws::Steps::normal_steps))]
+#![tactic(auto, using(math::specs::laws::Loops::iter_none, math::specs::laws::Loops::iter_more, crate::specs::laws::Blocks::adds_to_each, crate::specs::laws::Blocks::reading_lent), unfolding(crate::specs::Blocks::products_of, crate::specs::Blocks::multiples_of, crate::specs::laws::Steps::normal_steps))]
 
 ghost use Rattle.std.specs.Prelude.{◌≡◌, ◌+◌, ◌*◌, ◌≤◌, ◌<◌, length};
 ghost use Rattle.block_solve.specs.Blocks.{products_of, multiples_of};
@@ -16,7 +16,8 @@ pub struct BlockNormal {
     pub random_rhs: [f64; 64],
 }
 
-// The products of two lists, added to the rows of a block that begins at from, stride places to a row.
+// The products of two lists, added to the rows of a block that begins at from, stride places to a row. By index, into
+// the flat arrays; inlined, so that a stride is a constant where it is called.
 #[inline(always)]
 fn add_products(blocks: &mut [f64], from: usize, stride: usize, rows: &[f64], columns: &[f64])
     requires { (length columns.now ≤ stride) × (from + length rows.now * stride ≤ length blocks.old) }
@@ -97,7 +98,8 @@ impl BlockNormal {
         self
     }
 
-    // Group g's block gets the inverse, and its right-hand side loses the inverse times the group's effects b.
+    // Group g's block gets the inverse, and its right-hand side loses the inverse times the group's effects b. By index,
+    // into the flat arrays.
     fn add_group_prior(&mut self, g: usize, inverse: [[f64; 2]; 2], b: &[f64])
         requires { (g < 32) × (length b.now ≤ 2) }
         ensures { self.new ≡ prior_group inverse g (length b.now) b.now self.old }

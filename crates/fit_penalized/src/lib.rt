@@ -14,7 +14,7 @@ use fit_refusals::{MAX_READINGS, NlmmProblem};
 use fit_step::State;
 use re_cov::re_penalty;
 
-// The curve of reading i, with its group's effects.
+// The curve of reading i, with its group's effects. By index: a call lends the readings' lists apart.
 #[tactic(auto, using(fit_step::specs::laws::Sized::slot_fits))]
 fn mean_at(q: &NlmmProblem<'_>, s: &State, i: usize) -> Mean
     requires { i < length q.now.doses.now }

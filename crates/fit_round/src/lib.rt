@@ -55,7 +55,8 @@ pub struct Outcome {
     pub trials: usize,
 }
 
-// What a run of rounds ends in. It stands here since a round's contract says what the round makes of it.
+// What a run of rounds ends in. It stands here since a round's contract says what the round makes of it. converged is an
+// answer, beside values that stand either way.
 #[derive(Clone, Copy)]
 pub struct Ended {
     pub state: State,
