@@ -1,3 +1,2 @@
-pub mod Blocks
 pub mod Sound
 pub mod Examples
