@@ -156,6 +156,7 @@ fn optimize_theta_golden<F: Fn(f64) -> f64>(criterion: F, allowed: u64) -> Found
     };
     let mut narrowings = 0u64;
     let mut fits = 2u64;
+    // A `while`: how many narrowings were made is an answer, and the bracket may be narrow before any.
     while s.is_wide() && narrowings < allowed {
         let t = s.new_point();
         s = s.narrowed(t, criterion(t));
@@ -186,7 +187,7 @@ pub fn search(
 {
     let problem = problem.for_search(max_rounds, max_narrowings)?;
     let asked = Asked {
-        problem,
+        problem: &problem,
         max_rounds,
         reml,
         n_agq,
