@@ -23,6 +23,8 @@ pub struct Fitted {
 }
 
 // The last state's p values and groups times k effects are written, group after group.
+// Not inlined: a caller's own arrays would lie on the stack beside the fit's.
+#[inline(never)]
 #[tactic(auto, using(fit_step::specs::laws::Sized::params_most, fit_refusals::specs::laws::Valid::few_effects))]
 pub fn fit_checked(
     q: &NlmmProblem<'_>,

@@ -1,6 +1,6 @@
--- The first of two lists of faults. Assumes nothing.
+-- The first of two lists of faults, and a problem that has none of the first eight. Assumes nothing.
 use Prim.Native.Nat.{ℕ, suc, ◌+◌, ◌<◌}
-use mathlib.Core.Path.{◌≡◌}
+use mathlib.Core.Path.{◌≡◌, refl}
 use mathlib.Core.Bool.{Bool, true, false, cond, ◌||◌}
 use mathlib.Core.List.{List, [], ◌∷◌, ◌++◌}
 use native.Mathlib.Nat.{add-zero, zero-lt-suc}
@@ -8,9 +8,11 @@ use native.Mathlib.Omega.{arith}
 use borrow.Author.Tests.{ne_eqb}
 use lib.Dec.{eqb}
 use lib.ListN.{length}
-use Rattle.fit_faults.specs.Tests.{bad_outputs, too_many}
+use Rattle.fit_refusals.specs.Tests.{all_below, bad_code, bad_readings, bad_groups, bad_effects, bad_outputs, too_many}
 use Rattle.fit_refusals.specs.Problem.{Problem, p, k}
-use Rattle.fit_refusals.specs.Faults.{first_from, first_eight, first_of_eight, refusal_of, search_refusal_of}
+use Rattle.fit_refusals.specs.Valid.{Valid}
+use Rattle.fit_refusals.specs.laws.Valid.{sized, valid_of}
+use Rattle.fit_refusals.specs.Faults.{wrong_lengths, wrong_numbers, wrong_order, first_from, first_eight, first_of_eight, refusal_of, search_refusal_of}
 
 -- the first fault of a list, or of the one after it
 abbrev then_later : ℕ → ℕ → ℕ
@@ -35,3 +37,9 @@ module _ (q : Problem) where
       ≡ then_later (first_of_eight q false) (cond (too_many rounds || eqb (k q) 2 || too_many narrowings) 10 0)
   unfolding search_refusal_of first_of_eight first_from
   search_split rounds narrowings = first_then 1 (first_eight q false) (false ∷ (too_many rounds || eqb (k q) 2 || too_many narrowings) ∷ []) (zero-lt-suc 0)
+
+  -- a problem that passes each test has what `Valid` says
+  pub passed : bad_code q.code ≡ false → bad_readings (length q.doses) (length q.grams) (length q.group) ≡ false → bad_groups q.groups ≡ false
+      → all_below q.groups q.group ≡ true → bad_effects (p q) q.effects ≡ false → wrong_lengths q ≡ false → wrong_numbers q ≡ false → wrong_order q ≡ false → Valid q
+  unfolding first_from
+  passed code readings groups member effects = valid_of q (sized q (rw (code, readings, groups, member, effects) refl))

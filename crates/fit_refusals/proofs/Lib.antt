@@ -1,1 +1,2 @@
+mod Infinities
 mod Laws

@@ -2,7 +2,7 @@
 use Rattle.std.specs.Prelude.{ℕ, suc, Bool, false, not, ◌||◌, cond, List, [], ◌∷◌, ◌++◌, eqb, length}
 use Rattle.math.specs.Basic.{is_finite}
 use Rattle.math.specs.Lists.{every}
-use Rattle.fit_faults.specs.Tests.{all_below, bad_code, bad_readings, bad_groups, bad_effects, bad_lengths, bad_theta, bad_numbers, bad_order, bad_outputs, too_many}
+use Rattle.fit_refusals.specs.Tests.{all_below, bad_code, bad_readings, bad_groups, bad_effects, bad_lengths, bad_theta, bad_numbers, bad_order, bad_outputs, too_many}
 use Rattle.fit_refusals.specs.Problem.{Problem, p, k}
 
 module _ (q : Problem) where

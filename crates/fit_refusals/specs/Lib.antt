@@ -1,4 +1,6 @@
 pub mod Problem
+pub mod Lists
+pub mod Tests
 pub mod Valid
 pub mod Given
 pub mod Faults

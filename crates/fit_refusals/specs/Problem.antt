@@ -1,5 +1,5 @@
 -- What a fit, a criterion and a search are given.
-use Rattle.std.specs.Prelude.{ℕ, Bool, ◌&&◌, List, [], ◌∷◌, eqb, Float, length}
+use Rattle.std.specs.Prelude.{ℕ, ◌+◌, ◌*◌, Bool, ◌&&◌, List, [], ◌∷◌, eqb, Float, length}
 use Rattle.curves.specs.MeanFn.{n_params_of}
 
 -- readings, the number of groups, the indices of the effects, and starts, bounds and group bounds by position; a search is given no theta, and has the empty list
@@ -46,6 +46,10 @@ module _ (q : Problem) where
 
   abbrev pub k : ℕ
   k = length q.effects
+
+  -- how long a direction is: p numbers for the values, then k for the effects of each group
+  abbrev pub direction_length : ℕ
+  direction_length = p + q.groups * k
 
   -- the fit that a search makes at theta t
   abbrev pub at_theta : Float → Problem

@@ -3,7 +3,7 @@ use Rattle.std.specs.Prelude.{ℕ, ◌*◌, ◌≤◌, ◌<◌, ◌≡◌, true,
 use Rattle.std.specs.Float.{nan}
 use Rattle.std.specs.Float.Ieee.{lt}
 use Rattle.math.specs.Basic.{is_finite}
-use Rattle.fit_faults.specs.Tests.{is_lower, is_upper}
+use Rattle.fit_refusals.specs.Tests.{is_lower, is_upper}
 use Rattle.fit_refusals.specs.Problem.{Problem, p, k}
 
 -- without 1 to 5

@@ -4,64 +4,46 @@ ghost use Rattle.fit_refusals.specs.Given.{given, checked, number_in};
 ghost use Rattle.fit_refusals.specs.Faults.{first_of_eight, refusal_of, search_refusal_of};
 ghost use Rattle.fit_refusals.specs.Valid.{ValidFit, ValidSearch};
 
+use crate::faults::{all_below, too_many};
 use crate::{NlmmProblem, Problem};
 use curves::Curve;
-use fit_faults::{
-    all_below, bad_effects, bad_groups, bad_lengths, bad_numbers, bad_order, bad_outputs,
-    bad_readings, bad_theta, too_many,
-};
 use math::all_finite;
 use refusal::Refusal;
 
 impl<'a> Problem<'a> {
     // 1 to 8; those of theta where it is read.
-    #[tactic(auto, using(crate::specs::laws::Codes::known), unfolding(crate::specs::Faults::first_from, crate::specs::Faults::first_of_eight, fit_faults::specs::Tests::bad_code))]
+    #[tactic(auto, using(crate::specs::laws::Codes::known), unfolding(crate::specs::Faults::first_from, crate::specs::Faults::first_of_eight, crate::specs::Tests::bad_code))]
     fn first_eight(&self, reads_theta: bool) -> Result<NlmmProblem<'a>, Refusal>
         ensures number { number_in result ≡ first_of_eight (given self.now) reads_theta }
         ensures same { IfOk result (λ q. checked q ≡ given self.now) }
     {
         let curve = Curve::try_from(self.code)?;
-        if bad_readings(self.doses.len(), self.grams.len(), self.group.len()) {
+        if self.bad_readings() {
             return Err(Refusal::Readings);
         }
-        if bad_groups(self.groups) {
+        if self.bad_groups() {
             return Err(Refusal::Groups);
         }
         if !all_below(self.group, self.groups) {
             return Err(Refusal::Group);
         }
         let p = curve.n_params();
-        if bad_effects(p, self.effects) {
+        if self.bad_effects(p) {
             return Err(Refusal::Effects);
         }
-        if bad_lengths(
-            p,
-            self.starts.len(),
-            self.lower.len(),
-            self.upper.len(),
-            self.group_lower.len(),
-            self.group_upper.len(),
-        ) {
+        if self.bad_lengths(p) {
             return Err(Refusal::Lengths);
         }
-        if reads_theta && bad_theta(self.effects.len(), self.theta.len()) {
+        if reads_theta && self.bad_theta() {
             return Err(Refusal::Lengths);
         }
-        if bad_numbers(
-            self.doses,
-            self.grams,
-            self.starts,
-            self.lower,
-            self.upper,
-            self.group_lower,
-            self.group_upper,
-        ) {
+        if self.bad_numbers() {
             return Err(Refusal::Numbers);
         }
         if reads_theta && !all_finite(self.theta) {
             return Err(Refusal::Numbers);
         }
-        if bad_order(self.lower, self.upper, self.group_lower, self.group_upper) {
+        if self.bad_order() {
             return Err(Refusal::Bounds);
         }
         Ok(NlmmProblem {
@@ -80,8 +62,8 @@ impl<'a> Problem<'a> {
         })
     }
 
-    #[tactic(auto, using(crate::specs::laws::Codes::numbered, crate::proofs::Laws::fit_split))]
     // The problem of a fit or a criterion, with output lists of n_values and n_effects_out places.
+    #[tactic(auto, using(crate::specs::laws::Codes::numbered, crate::proofs::Laws::fit_split))]
     pub fn for_fit(
         &self,
         max_rounds: u64,
@@ -94,7 +76,7 @@ impl<'a> Problem<'a> {
     {
         let problem = self.first_eight(true)?;
         let p = problem.curve.n_params();
-        if bad_outputs(p, self.groups, self.effects.len(), n_values, n_effects_out) {
+        if self.bad_outputs(p, n_values, n_effects_out) {
             return Err(Refusal::Outputs);
         }
         if too_many(max_rounds) {
@@ -103,8 +85,8 @@ impl<'a> Problem<'a> {
         Ok(problem)
     }
 
-    #[tactic(auto, using(crate::specs::laws::Codes::numbered, crate::proofs::Laws::search_split))]
     // The problem of a search, which finds a theta for one effect, and writes no list.
+    #[tactic(auto, using(crate::specs::laws::Codes::numbered, crate::proofs::Laws::search_split))]
     pub fn for_search(
         &self,
         max_rounds: u64,

@@ -7,8 +7,12 @@ ghost use Rattle.fit_refusals.specs.Problem.{problem_of, is_scalar};
 ghost use Rattle.fit_refusals.specs.Valid.{Valid};
 
 pub mod checks;
+pub mod faults;
 
 use curves::Curve;
+
+// The most readings that there are.
+pub const MAX_READINGS: usize = 512;
 
 // A call's arguments, unchecked. A search is given no theta: it reads none.
 #[derive(Clone, Copy)]
@@ -28,6 +32,7 @@ pub struct Problem<'a> {
 }
 
 // A problem without the faults 1 to 8, theta's aside: `Problem::for_fit` and `Problem::for_search` make it.
+// The lists stand here again, and no `Problem` within: its code would stand beside the curve, and each list be one name further away.
 #[derive(Clone, Copy)]
 pub struct NlmmProblem<'a> {
     pub curve: Curve,

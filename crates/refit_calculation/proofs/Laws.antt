@@ -7,7 +7,7 @@ use lib.Dec.{eqb}
 use lib.Ieee.{Float}
 use lib.ListN.{take, replicate}
 use Rattle.curves.specs.MeanFn.{no_curve, n_params_of}
-use Rattle.fit_faults.specs.Tests.{bad_code}
+use Rattle.fit_refusals.specs.Tests.{bad_code}
 use Rattle.fit_refusals.specs.Faults.{search_refusal_of, first_from}
 use Rattle.self_start.specs.Start.{fault_of, written_of}
 use Rattle.refit_calculation.specs.declared.Step.TheVariants as Step

@@ -7,7 +7,7 @@ use Rattle.refusal.specs.Refusal.{number_of}
 use Rattle.curves.specs.declared.mean_fn.Curve.{Curve}
 use Rattle.curves.specs.declared.mean_fn.Curve.TheVariants.{Sslogis, Ssasymp, Ssmicmen, Ssfpl}
 use Rattle.curves.specs.MeanFn.{code_of}
-use Rattle.fit_faults.specs.Tests.{bad_code}
+use Rattle.fit_refusals.specs.Tests.{bad_code}
 
 pub known : (c : Curve) → bad_code (code_of c) ≡ false
 unfolding bad_code

@@ -5,8 +5,8 @@ use Rattle.std.specs.Float.Ieee.{lt}
 use Rattle.std.specs.Float.Ieee as Ieee
 use Rattle.math.specs.Basic.{is_finite, bits, zero, one, two}
 use Rattle.curves.specs.MeanFn.{n_params_of}
-use Rattle.fit_faults.specs.Lists.{in_order}
-use Rattle.fit_faults.specs.Tests.{bad_code, bad_readings, bad_groups, bad_effects, bad_lengths, bad_theta, bad_numbers, bad_order, bad_outputs, too_many}
+use Rattle.fit_refusals.specs.Lists.{in_order}
+use Rattle.fit_refusals.specs.Tests.{bad_code, bad_readings, bad_groups, bad_effects, bad_lengths, bad_theta, bad_numbers, bad_order, bad_outputs, too_many}
 use Rattle.fit_refusals.specs.Problem.{Problem, problem_of, p, k}
 use Rattle.fit_refusals.specs.Faults.{first_from, refusal_of, search_refusal_of}
 

@@ -1,5 +1,5 @@
 -- A fit or a search without faults has what specs/Valid.antt says. Assumes nothing.
-use Rattle.std.specs.Prelude.{ℕ, zero, suc, ◌*◌, ◌≤◌, ◌<◌, ◌≡◌, Bool, true, ◌&&◌, ◌||◌, cond, List, [], ◌∷◌, ◌++◌, T, eqb, Float, length, get_or}
+use Rattle.std.specs.Prelude.{ℕ, zero, suc, ◌*◌, ◌≤◌, ◌<◌, ◌≡◌, Bool, true, ◌&&◌, ◌||◌, cond, List, [], ◌∷◌, ◌++◌, T, eqb, Float, get_or}
 use Rattle.std.proofs.Math.Path.{refl}
 use Rattle.std.proofs.Common.{sym, subst, zero-lt-suc, mul-le-mul, arith}
 use Rattle.std.proofs.Math.Bool.{false}
@@ -10,8 +10,8 @@ use borrow.Author.Tests.{ltb-true, ltb-false, eqb-true, eqb-false, eq-eqb, not-f
 use Rattle.math.specs.Basic.{is_finite}
 use Rattle.math.specs.laws.Lists.{every_at}
 use Rattle.curves.specs.MeanFn.{n_params_of}
-use Rattle.fit_faults.specs.laws.Lists.{order_at}
-use Rattle.fit_faults.specs.Tests.{is_lower, is_upper, all_below, bad_code, bad_readings, bad_groups, bad_effects, bad_lengths, bad_theta, bad_numbers, bad_order, bad_outputs, too_many}
+use Rattle.fit_refusals.specs.laws.Lists.{order_at}
+use Rattle.fit_refusals.specs.Tests.{is_lower, is_upper, bad_code, bad_readings, bad_groups, bad_effects, bad_lengths, bad_theta, bad_numbers, bad_order, bad_outputs, too_many}
 use Rattle.fit_refusals.specs.Problem.{Problem, p, k, at_theta}
 use Rattle.fit_refusals.specs.Valid.{Sized, Valid, ValidFit, ValidSearch}
 use Rattle.fit_refusals.specs.Faults.{early, wrong_lengths, wrong_numbers, wrong_order, fit_later, search_later, first_from, refusal_of, search_refusal_of}
@@ -21,7 +21,7 @@ use Rattle.fit_refusals.specs.Faults.{early, wrong_lengths, wrong_numbers, wrong
 clash : {X : Type 0} → true ≡ false → X
 clash e = absurd (subst T e tt)
 
-first_none : (i : ℕ) (b : Bool) (l : List Bool) → 0 < i → first_from i (b ∷ l) ≡ 0 → (b ≡ false) × (first_from (suc i) l ≡ 0)
+pub first_none : (i : ℕ) (b : Bool) (l : List Bool) → 0 < i → first_from i (b ∷ l) ≡ 0 → (b ≡ false) × (first_from (suc i) l ≡ 0)
 unfolding first_from
 first_none i true l p h = absurd (none i p h)
   where
@@ -46,17 +46,19 @@ within : {i n l : ℕ} → l ≡ n → i < n → i < l
 within e h = omega arith
 
 -- without 1 to 5
-module _ (q : Problem) (code : bad_code q.code ≡ false) (readings : bad_readings (length q.doses) (length q.grams) (length q.group) ≡ false) (groups : bad_groups q.groups ≡ false)
-    (member : all_below q.groups q.group ≡ true) (effects : bad_effects (p q) q.effects ≡ false) where
-  sized : Sized q
+module _ (q : Problem) (ok : first_from 1 (early q) ≡ 0) where
+  no_early : (j : ℕ) → get_or (early q) j false ≡ false
+  no_early = none_at 1 (early q) (zero-lt-suc 0) ok
+
+  pub sized : Sized q
   unfolding bad_code bad_readings bad_groups bad_effects
   sized =
-      let code = neither _ _ code in
-      let fourth = neither _ _ readings in
+      let code = neither _ _ (no_early 0) in
+      let fourth = neither _ _ (no_early 1) in
       let third = neither _ _ fourth.0 in
       let readings = neither _ _ third.0 in
-      let groups = neither _ _ groups in
-      let equal = neither _ _ effects in
+      let groups = neither _ _ (no_early 2) in
+      let equal = neither _ _ (no_early 4) in
       let index = neither _ _ equal.0 in
       let effects = neither _ _ index.0 in
       record {
@@ -68,53 +70,58 @@ module _ (q : Problem) (code : bad_code q.code ≡ false) (readings : bad_readin
         group = eqb-true _ _ (not-false _ fourth.1);
         groups_low = ltb-false _ _ groups.0;
         groups_high = ltb-false _ _ groups.1;
-        member = λ i h. ltb-true _ _ (every_at (λ (g : ℕ). ltb g q.groups) q.group i 0 member h);
+        member = λ i h. ltb-true _ _ (every_at (λ (g : ℕ). ltb g q.groups) q.group i 0 (not-false _ (no_early 3)) h);
         effects_low = ltb-false _ _ effects.0;
         effects_high = ltb-false _ _ effects.1;
         index = λ i h. ltb-true _ _ (every_at (λ (j : ℕ). ltb j (p q)) q.effects i 0 (not-false _ index.1) h);
         distinct = λ e. eqb-false _ _ (not_both _ _ equal.1 (eq-eqb _ _ e));
       }
 
-  -- and without 6, 7 and 8
-  module _ (lengths : wrong_lengths q ≡ false) (numbers : wrong_numbers q ≡ false) (order : wrong_order q ≡ false) where
-    pub valid_of : Valid q
-    unfolding bad_lengths bad_numbers bad_order
-    valid_of =
-        let l5 = neither _ _ lengths in
-        let l4 = neither _ _ l5.0 in
-        let l3 = neither _ _ l4.0 in
-        let l2 = neither _ _ l3.0 in
-        let n7 = neither _ _ numbers in
-        let n6 = neither _ _ n7.0 in
-        let n5 = neither _ _ n6.0 in
-        let n4 = neither _ _ n5.0 in
-        let n3 = neither _ _ n4.0 in
-        let n2 = neither _ _ n3.0 in
-        let o = neither _ _ order in
-        let starts = eqb-true _ _ (not-false _ l2.0) in
-        let lower = eqb-true _ _ (not-false _ l2.1) in
-        let upper = eqb-true _ _ (not-false _ l3.1) in
-        let group_lower = eqb-true _ _ (not-false _ l4.1) in
-        let group_upper = eqb-true _ _ (not-false _ l5.1) in
-        record {
-          sizes = sized;
-          starts = starts;
-          lower = lower;
-          upper = upper;
-          group_lower = group_lower;
-          group_upper = group_upper;
-          dose_finite = λ i h. every_at is_finite q.doses i nan (not-false _ n2.0) h;
-          gram_finite = λ i h. every_at is_finite q.grams i nan (not-false _ n2.1) (within sized.grams h);
-          start_finite = λ i h. every_at is_finite q.starts i nan (not-false _ n3.1) (within starts h);
-          is_lower_lem = λ i h. every_at is_lower q.lower i nan (not-false _ n4.1) (within lower h);
-          is_upper_lem = λ i h. every_at is_upper q.upper i nan (not-false _ n5.1) (within upper h);
-          is_group_lower = λ i h. every_at is_lower q.group_lower i nan (not-false _ n6.1) (within group_lower h);
-          is_group_upper = λ i h. every_at is_upper q.group_upper i nan (not-false _ n7.1) (within group_upper h);
-          order = λ i h. order_at q.lower q.upper i (not-false _ o.0) (within lower h) (within upper h);
-          group_order = λ i h. order_at q.group_lower q.group_upper i (not-false _ o.1) (within group_lower h) (within group_upper h);
-        }
+-- and without 6, 7 and 8, theta left out
+module _ (q : Problem) (size : Sized q) (lengths : wrong_lengths q ≡ false) (numbers : wrong_numbers q ≡ false) (order : wrong_order q ≡ false) where
+  pub valid_of : Valid q
+  unfolding bad_lengths bad_numbers bad_order
+  valid_of =
+      let l5 = neither _ _ lengths in
+      let l4 = neither _ _ l5.0 in
+      let l3 = neither _ _ l4.0 in
+      let l2 = neither _ _ l3.0 in
+      let n7 = neither _ _ numbers in
+      let n6 = neither _ _ n7.0 in
+      let n5 = neither _ _ n6.0 in
+      let n4 = neither _ _ n5.0 in
+      let n3 = neither _ _ n4.0 in
+      let n2 = neither _ _ n3.0 in
+      let o = neither _ _ order in
+      let starts = eqb-true _ _ (not-false _ l2.0) in
+      let lower = eqb-true _ _ (not-false _ l2.1) in
+      let upper = eqb-true _ _ (not-false _ l3.1) in
+      let group_lower = eqb-true _ _ (not-false _ l4.1) in
+      let group_upper = eqb-true _ _ (not-false _ l5.1) in
+      record {
+        sizes = size;
+        starts = starts;
+        lower = lower;
+        upper = upper;
+        group_lower = group_lower;
+        group_upper = group_upper;
+        dose_finite = λ i h. every_at is_finite q.doses i nan (not-false _ n2.0) h;
+        gram_finite = λ i h. every_at is_finite q.grams i nan (not-false _ n2.1) (within size.grams h);
+        start_finite = λ i h. every_at is_finite q.starts i nan (not-false _ n3.1) (within starts h);
+        is_lower_lem = λ i h. every_at is_lower q.lower i nan (not-false _ n4.1) (within lower h);
+        is_upper_lem = λ i h. every_at is_upper q.upper i nan (not-false _ n5.1) (within upper h);
+        is_group_lower = λ i h. every_at is_lower q.group_lower i nan (not-false _ n6.1) (within group_lower h);
+        is_group_upper = λ i h. every_at is_upper q.group_upper i nan (not-false _ n7.1) (within group_upper h);
+        order = λ i h. order_at q.lower q.upper i (not-false _ o.0) (within lower h) (within upper h);
+        group_order = λ i h. order_at q.group_lower q.group_upper i (not-false _ o.1) (within group_lower h) (within group_upper h);
+      }
 
 -- ---- a fit, a search
+
+first_part : (i : ℕ) (a b : List Bool) → 0 < i → first_from i (a ++ b) ≡ 0 → first_from i a ≡ 0
+unfolding first_from
+first_part i [] b p h = refl
+first_part i (x ∷ a) b p h = let r = first_none i x (a ++ b) p h in rw r.0 (first_part (suc i) a b (zero-lt-suc i) r.1)
 
 module _ (q : Problem) (values effects rounds : ℕ) (ok : refusal_of q values effects rounds ≡ 0) where
   no_fault : (j : ℕ) → get_or (early q ++ fit_later q values effects rounds) j false ≡ false
@@ -128,7 +135,7 @@ module _ (q : Problem) (values effects rounds : ℕ) (ok : refusal_of q values e
       let seven = neither _ _ (no_fault 6) in
       let nine = neither _ _ (no_fault 8) in
       record {
-        valid = valid_of q (no_fault 0) (no_fault 1) (no_fault 2) (not-false _ (no_fault 3)) (no_fault 4) six.0 seven.0 (no_fault 7);
+        valid = valid_of q (sized q (first_part 1 (early q) _ (zero-lt-suc 0) ok)) six.0 seven.0 (no_fault 7);
         theta = eqb-true _ _ (not-false _ six.1);
         theta_finite = λ i h. every_at is_finite q.theta i nan (not-false _ seven.1) h;
         values_long = eqb-true _ _ (not-false _ nine.0);
@@ -151,12 +158,12 @@ module _ (q : Problem) (rounds narrowings : ℕ) (ok : search_refusal_of q round
   pub search_valid : ValidSearch q rounds narrowings
   unfolding search_refusal_of too_many
   search_valid =
-      let valid = valid_of q (no_search_fault 0) (no_search_fault 1) (no_search_fault 2) (not-false _ (no_search_fault 3)) (no_search_fault 4) (no_search_fault 5) (no_search_fault 6) (no_search_fault 7) in
+      let size = sized q (first_part 1 (early q) _ (zero-lt-suc 0) ok) in
       let ten = neither _ _ (no_search_fault 9) in
       let two = neither _ _ ten.0 in
       record {
-        valid = valid;
-        one_effect = one_of_two valid.sizes.effects_low valid.sizes.effects_high (eqb-false _ _ two.1);
+        valid = valid_of q size (no_search_fault 5) (no_search_fault 6) (no_search_fault 7);
+        one_effect = one_of_two size.effects_low size.effects_high (eqb-false _ _ two.1);
         few_rounds = ltb-false _ _ two.0;
         few_narrowings = ltb-false _ _ ten.1;
       }

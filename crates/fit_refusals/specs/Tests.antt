@@ -4,7 +4,7 @@ use Rattle.std.specs.Float.{inf}
 use Rattle.std.specs.Float.Ieee.{lt}
 use Rattle.math.specs.Basic.{is_finite}
 use Rattle.math.specs.Lists.{every}
-use Rattle.fit_faults.specs.Lists.{in_order}
+use Rattle.fit_refusals.specs.Lists.{in_order}
 
 -- a bound that a lower bound may be: neither NaN nor +infinity; an upper: neither NaN nor -infinity
 abbrev pub is_lower : Float → Bool

@@ -3,7 +3,7 @@ use Rattle.std.specs.Prelude.{ℕ, zero, suc, ◌<◌, ◌≡◌, refl, Bool, tr
 use Rattle.std.proofs.Common.{sym, subst, le_of_suc-le-suc, not-suc-le-zero}
 use Rattle.std.specs.Float.{nan}
 use Rattle.std.specs.Float.Ieee.{lt}
-use Rattle.fit_faults.specs.Lists.{in_order}
+use Rattle.fit_refusals.specs.Lists.{in_order}
 
 -- ---- lists in order are so at each place
 

@@ -1,2 +1,0 @@
--- What is proved of the definitions: laws, steps and rows by computation. Nothing here has to be believed.
-pub mod Lists
