@@ -9,7 +9,7 @@ ghost use Rattle.criterion_groups.specs.Groups.{own_of, group_squares, block_by}
 
 use curves::mean_fn::effective;
 use fit_penalized::normal::random_gradients;
-use fit_refusals::NlmmProblem;
+use fit_refusals::{MAX_READINGS, NlmmProblem};
 use std::marker::Model;
 
 // The numbers so far of a list with N places.
@@ -52,12 +52,9 @@ impl<const N: usize> Filled<N> {
     }
 }
 
-// The most readings that there are.
-const READINGS: usize = 512;
-
 // What a list has at the readings of group g, in their order.
 #[tactic(auto, using(crate::proofs::Laws::own_zip))]
-pub fn own_readings(group: &[usize], g: usize, list: &[f64]) -> Filled<READINGS>
+pub fn own_readings(group: &[usize], g: usize, list: &[f64]) -> Filled<MAX_READINGS>
     requires many { length group.now ≤ 512 }
     requires each { length group.now ≤ length list.now }
     ensures { result ≡ own_of group.now g list.now }
