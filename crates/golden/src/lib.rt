@@ -137,6 +137,7 @@ impl Bracket {
 
 // The search, whatever the criterion answers: two fits at the first inner points, one after each narrowing,
 // one at theta.
+#[tactic(auto, using(crate::proofs::Loop::left_finite, crate::proofs::Loop::right_finite))]
 fn optimize_theta_golden<F: Fn(f64) -> f64>(criterion: F, allowed: u64) -> Found
     requires { (t : Float) → is_finite t ≡ true → F.pre criterion t }
     ensures demand3 { Demand3 allowed result }
