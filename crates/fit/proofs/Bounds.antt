@@ -9,12 +9,12 @@ use Prim.Native.Nat.{ℕ, ◌+◌, ◌*◌, ◌<◌}
 use native.Mathlib.Nat.{lt_of_lt_of_le}
 use native.Mathlib.Omega.{arith}
 use lib.Dec.{T}
-use lib.Ieee.{Float, nan, inf, lt, is_nan, of_bits}
+use lib.Ieee.{Float, nan, lt, is_nan, of_bits}
 use lib.ListN.{length, get_or, replicate, length-replicate, length-set}
 use Rattle.math.specs.Basic as Basic
 use Rattle.math.specs.Basic.{mul, is_finite, abs_of}
 use Rattle.math.specs.laws.Lists.{every_at}
-use Rattle.math.specs.laws.Order.{lt_self, above_num}
+use Rattle.math.specs.laws.Order.{lt_self}
 use Rattle.math.specs.laws.Numbers.{finite_number, add_number}
 use Rattle.math.specs.Rationals.{1e-8}
 use Rattle.curves.specs.MeanFn.{scal_index_of}
@@ -27,7 +27,8 @@ use Rattle.fit_step.specs.Project.{clamp_of, clamp_at, project_of, group_clamp, 
 use Rattle.fit_step.specs.Trial.{at_place, on_scal, adjusted, floored, start_at, started, start_of, moved_at, moved_of, values_tried, effects_tried, tried_of}
 use Rattle.fit_step.specs.laws.Sized.{params_most}
 use Rattle.fit.specs.Demand3.{Inside, InBounds}
-use Rattle.fit.proofs.Floats.{below_number, mul_finite, short}
+use Rattle.fit.proofs.Floats.{mul_finite, short}
+use Rattle.fit_refusals.specs.laws.Valid.{lower_number, upper_number}
 use Rattle.fit.proofs.Lists.{iter_length, alter_keeps, each_at_lem, each_length}
 use Rattle.std.proofs.lemmas.Bool.{cond_both}
 
@@ -114,7 +115,7 @@ module _ (q : Problem) (valid : Valid q) where
             let lo = get_or q.lower i nan in
             let hi = get_or q.upper i nan in
             subst (λ (v : Float). Inside lo hi v) (sym (each_at_lem (clamp_at q.lower q.upper) l (p q) i x (subst (λ (n : ℕ). i < n) (sym e) (reach i x))))
-            (clamp_inside lo hi (get_or l i nan) (below_number lo (inf false) (valid.is_lower_lem i x)) (above_num (inf true) hi (valid.is_upper_lem i x))
+            (clamp_inside lo hi (get_or l i nan) (lower_number lo (valid.is_lower_lem i x)) (upper_number hi (valid.is_upper_lem i x))
             (valid.order i x) (h i x));
       }
 

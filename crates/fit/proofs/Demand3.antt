@@ -21,7 +21,8 @@ use Rattle.fit_round.specs.Round.{Trial, Trace, last_of}
 use Rattle.fit.specs.Fit.{rounds, trace_of, whole_of, fit_of}
 use Rattle.fit.specs.Demand3 as Claim
 use Rattle.fit.specs.Demand3.{InBounds, no_state, no_trial, winners_of}
-use Rattle.fit.proofs.Lists.{All, all_at}
+use Rattle.std.specs.List.{AllByRecursion}
+use Rattle.std.proofs.lemmas.List.Elements.{All-from_recursion}
 use Rattle.fit_step.specs.laws.Sized.{params_most}
 use Rattle.fit.proofs.Bounds.{start_inside}
 use Rattle.fit.proofs.Descent.{Tried, TraceLaw, rounds_law}
@@ -34,14 +35,14 @@ module _ (q : Problem) where
 
   -- ---- the winners of trials fall from x, and lie in their bounds
   abbrev Winners : Float → List State → Type 0
-  Winners x l = Falls x l × All (InBounds q) l
+  Winners x l = Falls x l × AllByRecursion (InBounds q) l
 
   first : (x v : Float) (z : State) (l r : List State) (b : Bool) → InBounds q z → v ≡ sum_of q z → lt v x ≡ b → Winners v l → Winners x r
       → Winners x (cond b (z ∷ l) r)
   first x v z l r true i e h w k = ((subst (λ (y : Float). lt y x ≡ true) e h, subst (λ (y : Float). Falls y l) e w.0), (i, w.1))
   first x v z l r false i e h w k = k
 
-  winners : (x : Float) (l : List Trial) → All (Tried q) l → Winners x (winners_of x l)
+  winners : (x : Float) (l : List Trial) → AllByRecursion (Tried q) l → Winners x (winners_of x l)
   unfolding winners_of
   winners x [] h = (tt, tt)
   winners x (t ∷ l) h =
@@ -62,7 +63,7 @@ module _ (q : Problem) where
   falls_all s (z ∷ l) h (suc i) (suc j) a b = falls_all z l h.1 i j (le_of_suc-le-suc a) (le_of_suc-le-suc b)
 
   -- ---- the last state
-  last_inside : (s : State) (l : List State) → InBounds q s → All (InBounds q) l → InBounds q (last_of s l)
+  last_inside : (s : State) (l : List State) → InBounds q s → AllByRecursion (InBounds q) l → InBounds q (last_of s l)
   last_inside s [] b h = b
   last_inside s (z ∷ l) b h = last_inside z l h.0 h.1
 
@@ -91,9 +92,9 @@ whole q allowed t valid g =
       values = refl;
       effects = refl;
       written = sizes q valid (last_of s t.accepted) (last_inside q s t.accepted b w.1);
-      states = all_at (InBounds q) no_state (s ∷ t.accepted) (b, w.1);
-      trials = λ i h. (all_at (Tried q) no_trial t.trials g.trials i h).0;
-      sums = λ i h. (all_at (Tried q) no_trial t.trials g.trials i h).1;
+      states = λ i h. All-from_recursion (InBounds q) (s ∷ t.accepted) (b, w.1) i no_state h;
+      trials = λ i h. (All-from_recursion (Tried q) t.trials g.trials i no_trial h).0;
+      sums = λ i h. (All-from_recursion (Tried q) t.trials g.trials i no_trial h).1;
       counted = refl;
       few = plain (length t.trials) (240 * t.rounds) g.few;
       begun = g.begun;

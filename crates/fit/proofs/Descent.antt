@@ -19,14 +19,15 @@ use Rattle.block_solve.proofs.Sound.{Sound, direction_sound}
 use Rattle.fit_refusals.specs.Problem.{Problem, p, k}
 use Rattle.fit_refusals.specs.Valid.{Valid}
 use Rattle.fit_step.specs.declared.State.{State}
-use Rattle.fit_step.specs.Trial.{tried_of, largest_of, step_of, lowered, raised}
+use Rattle.math.specs.Lists.{largest_of}
+use Rattle.fit_step.specs.Trial.{tried_of, step_of, lowered, raised}
 use Rattle.fit_penalized.specs.Penalized.{sum_of}
 use Rattle.fit_penalized.specs.Normal.{normal_of}
 use Rattle.fit_round.specs.Round.{1e-10, Trial, Trace, ended, tried, direction, lengths, along, attempts}
 use Rattle.fit.specs.Fit.{won, begun, rounds}
 use Rattle.fit.specs.Demand3.{InBounds, winners_of}
 use Rattle.fit.proofs.Floats.{short}
-use Rattle.fit.proofs.Lists.{All}
+use Rattle.std.specs.List.{AllByRecursion}
 use Rattle.std.proofs.lemmas.Bool.{cond_both}
 use Rattle.fit_step.specs.laws.Sized.{params_most}
 use Rattle.fit.proofs.Bounds.{tried_inside}
@@ -48,7 +49,7 @@ module _ (q : Problem) where
   -- a trace from a state with the sum old: at most n rounds begin, and at most c trials beside 240 for each of them
   pub record TraceLaw (n c : ℕ) (old : Float) (t : Trace) : Type 0 where
     pub accepts : winners_of old t.trials ≡ t.accepted
-    pub trials : All Tried t.trials
+    pub trials : AllByRecursion Tried t.trials
     pub few : length t.trials ≤ c + 240 * t.rounds
     pub begun : t.rounds ≤ n
 

@@ -16,13 +16,6 @@ use lib.Ieee.Order.{round_mono, kept, drop}
 use Rattle.math.specs.Basic.{mul, is_finite}
 use Rattle.math.specs.laws.Order.{clash'}
 
--- what is below something is no NaN
-pub below_number : (a b : Float) → lt a b ≡ true → is_nan a ≡ false
-unfolding lt is_nan
-below_number nan b h = clash' h
-below_number (inf s) b h = refl
-below_number (fin s m e) b h = refl
-
 -- ---- a fraction that rounds, without its sign, to at most a finite value rounds to a finite one with either sign
 
 odd_finite : (d : ℕ) (s : Bool) (q k l : ℕ) → is_finite (odd d s q k l) ≡ true

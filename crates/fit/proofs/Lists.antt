@@ -1,4 +1,4 @@
--- What a loop keeps, what holds at each place of a list, and what `alter` and `each` leave at a place. Assumes nothing.
+-- What a loop keeps, and what `alter` and `each` leave at a place. Assumes nothing.
 use mathlib.Core.Path.{◌≡◌, refl, sym, ap, ◌∙◌, subst}
 use mathlib.Core.Logic.{inl, inr}
 use mathlib.Core.List.{List, [], ◌∷◌}
@@ -6,7 +6,8 @@ use Prim.Native.Nat.{ℕ, zero, suc, ◌≤◌, ◌<◌}
 use native.Mathlib.Nat.{eq-or-lt_of_le, le_of_suc-le-suc, not-suc-le-zero}
 use native.Mathlib.Omega.{arith}
 use lib.Ieee.{Float, nan}
-use lib.ListN.{length, get_or, length-set}
+use lib.ListN.{length, get_or, take, replicate, length-set, length-replicate}
+use Rattle.std.proofs.lemmas.List.{length-take-le}
 use lib.Seq.{get_or-set_same, get_or-set_other}
 use Rattle.math.specs.Loops.{iter}
 use Rattle.fit_step.specs.Lists.{alter, each_at, each}
@@ -18,16 +19,6 @@ module _ {A : Type 0} (P : A → Type 0) where
   iter_keeps f h zero a x = x
   iter_keeps f h (suc n) a x = h n (iter f n a) (iter_keeps f h n a x)
 
-  -- P of each element
-  abbrev pub All : List A → Type 0
-  All [] = Unit {0}
-  All (x ∷ l) = P x × All l
-
-  pub all_at : (d : A) (l : List A) → All l → (i : ℕ) → i < length l → P (get_or l i d)
-  all_at d [] h i b = absurd (not-suc-le-zero b)
-  all_at d (x ∷ l) h zero b = h.0
-  all_at d (x ∷ l) h (suc i) b = all_at d l h.1 i (le_of_suc-le-suc b)
-
 -- ---- lengths
 
 pub iter_length : (f : ℕ → List Float → List Float) → ((i : ℕ) (l : List Float) → length (f i l) ≡ length l) → (n : ℕ) (l : List Float)
@@ -37,6 +28,10 @@ iter_length f h n l = iter_keeps (λ r. length r ≡ length l) f (λ i r e. h i 
 pub each_length : (f : ℕ → Float → Float) (n : ℕ) (l : List Float) → length (each f n l) ≡ length l
 unfolding each
 each_length f n l = iter_length (each_at f) (λ i r. length-set r i (f i (get_or r i nan))) n l
+
+-- the first n of a direction's 68 places
+pub some_places : (n : ℕ) (x : Float) → n ≤ 68 → length (take n (replicate 68 x)) ≡ n
+some_places n x h = length-take-le n (replicate 68 x) (rw length-replicate h)
 
 -- ---- one place altered, and each of the first n
 

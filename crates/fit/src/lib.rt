@@ -25,7 +25,7 @@ pub struct Fitted {
 // The last state's p values and groups times k effects are written, group after group.
 // Not inlined: a caller's own arrays would lie on the stack beside the fit's.
 #[inline(never)]
-#[tactic(auto, using(fit_step::specs::laws::Sized::params_most, fit_refusals::specs::laws::Valid::few_effects))]
+#[tactic(auto, using(fit_step::specs::laws::Sized::params_most, fit_refusals::specs::laws::Valid::few_effects, crate::proofs::Call::checked_done))]
 pub fn fit_checked(
     q: &NlmmProblem<'_>,
     max_rounds: u64,
@@ -49,7 +49,7 @@ pub fn fit_checked(
 }
 
 // Refused by document 01's numbers 1 to 10, with both lists as they were; else as `fit_checked`.
-#[tactic(auto, using(crate::proofs::Call::call_refused))]
+#[tactic(auto, using(crate::proofs::Call::call_refused, crate::proofs::Call::call_done))]
 pub fn fit(
     problem: &Problem<'_>,
     max_rounds: u64,

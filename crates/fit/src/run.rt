@@ -1,15 +1,18 @@
 // All rounds of a fit (`inner_gauss_newton_status`), from the start on.
-ghost use Rattle.std.specs.Prelude.{◌≡◌, ◌≤◌, ◌+◌, ◌*◌, length};
-ghost use Rattle.fit_refusals.specs.Problem.{p, k};
+ghost use Rattle.std.specs.Prelude.{◌≡◌, ◌≤◌, length};
+ghost use Rattle.fit_refusals.specs.Problem.{direction_length};
 ghost use Rattle.fit_refusals.specs.Given.{checked};
 ghost use Rattle.fit.specs.Steps.{run_of, ended_with};
 
 use curves::Mean;
 use fit_penalized::normal::normal;
-use fit_refusals::NlmmProblem;
+use fit_refusals::{MAX_READINGS, NlmmProblem};
 use fit_round::{End, Ended, Evaluated, evaluate_state, round};
 use fit_step::trial::{first_lambda, start_state};
 use re_cov::sigma_inv_from_theta;
+
+// A round whose step is below it is the last.
+const NEAR: f64 = 1e-10;
 
 // The rss that is answered was worked out with the state.
 fn end_with(x: &Evaluated, converged: bool, rounds: usize, trials: usize) -> Ended
@@ -25,9 +28,14 @@ fn end_with(x: &Evaluated, converged: bool, rounds: usize, trials: usize) -> End
 }
 
 // All rounds, from the adjusted, projected start. A round without a winner is the last, and so is a
-// round whose step is below 1e-10.
-fn run(q: &NlmmProblem<'_>, allowed: usize, d: &mut [f64], means: &mut [Mean; 512]) -> Ended
-    requires long { length d.old ≡ p (checked q.now) + q.now.groups * k (checked q.now) }
+// round whose step is below `NEAR`.
+fn run(
+    q: &NlmmProblem<'_>,
+    allowed: usize,
+    d: &mut [f64],
+    means: &mut [Mean; MAX_READINGS],
+) -> Ended
+    requires long { length d.old ≡ direction_length (checked q.now) }
     requires few { allowed ≤ 1000 }
     ensures { result ≡ run_of (checked q.now) allowed }
 {
@@ -43,7 +51,7 @@ fn run(q: &NlmmProblem<'_>, allowed: usize, d: &mut [f64], means: &mut [Mean; 51
             End::Won(w) => {
                 x = w.at;
                 lambda = w.lambda;
-                if w.step < 1e-10 {
+                if w.step < NEAR {
                     return end_with(&x, true, i + 1, trials);
                 }
             }
@@ -54,18 +62,14 @@ fn run(q: &NlmmProblem<'_>, allowed: usize, d: &mut [f64], means: &mut [Mean; 51
     end_with(&x, false, allowed, trials)
 }
 
-// Room for a direction: four curve values and two effects of 32 groups.
-fn room_for_direction() -> [f64; 68] {
-    [0.0; 68]
-}
-
-// The fit of a problem without fault, with room for the curves of 512 readings.
+// The fit of a problem without fault, with room for a direction, of four curve values and two effects of 32
+// groups, and for the curves of all readings.
 #[tactic(auto, using(fit_step::specs::laws::Sized::params_most, fit_step::specs::laws::Sized::all_fit))]
 pub fn inner_gauss_newton(q: &NlmmProblem<'_>, allowed: usize) -> Ended
     requires { allowed ≤ 1000 }
     ensures { result ≡ run_of (checked q.now) allowed }
 {
-    let mut d = room_for_direction();
+    let mut d = [0.0; 68];
     let none = Mean {
         mu: 0.0,
         d0: 0.0,
@@ -73,7 +77,7 @@ pub fn inner_gauss_newton(q: &NlmmProblem<'_>, allowed: usize) -> Ended
         d2: 0.0,
         d3: 0.0,
     };
-    let mut means = [none; 512];
+    let mut means = [none; MAX_READINGS];
     let size = q.curve.n_params() + q.groups * q.effects.len();
     run(q, allowed, &mut d[..size], &mut means)
 }

@@ -7,7 +7,8 @@ use Rattle.block_solve.specs.declared.normal.BlockNormal.{BlockNormal}
 use Rattle.block_solve.specs.Direction.{direction_of}
 use Rattle.fit_refusals.specs.Problem.{Problem, p, k}
 use Rattle.fit_step.specs.declared.State.{State}
-use Rattle.fit_step.specs.Trial.{tried_of, largest_of, step_of, lowered, raised}
+use Rattle.math.specs.Lists.{largest_of}
+use Rattle.fit_step.specs.Trial.{tried_of, step_of, lowered, raised}
 use Rattle.fit_penalized.specs.Penalized.{sum_of}
 
 -- a proposal or a step below it ends the fit as converged; laws/Literals.antt ties it to its decimal

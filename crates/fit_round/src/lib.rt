@@ -15,7 +15,8 @@ use curves::Mean;
 use fit_penalized::{evaluate, penalties};
 use fit_refusals::NlmmProblem;
 use fit_step::State;
-use fit_step::trial::{largest, lower_lambda, raise_lambda, step_size, try_step};
+use fit_step::trial::{lower_lambda, raise_lambda, step_size, try_step};
+use math::largest;
 
 // A state with its rss and its penalised sum.
 #[derive(Clone, Copy)]

@@ -2,4 +2,5 @@ pub mod Lists
 pub mod Constants
 pub mod Project
 pub mod Trial
+pub mod Sized
 pub mod laws

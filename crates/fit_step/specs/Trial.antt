@@ -1,8 +1,9 @@
 -- The start of a fit, the state that a trial tries, and the lambdas (in `inner_gauss_newton_status`).
-use Rattle.std.specs.Prelude.{ℕ, ◌+◌, ◌*◌, cond, Option, Some, None, List, fold, map, Float, get_or, replicate}
+use Rattle.std.specs.Prelude.{ℕ, ◌+◌, ◌*◌, cond, Option, Some, None, List, map, Float, get_or, replicate}
 use Rattle.std.specs.Float.{nan}
 use Rattle.std.specs.Float.Ieee.{lt}
 use Rattle.math.specs.Basic.{add, mul, zero, abs_of, max_of, min_of}
+use Rattle.math.specs.Lists.{largest_of}
 use Rattle.math.specs.Rationals.{1e-8}
 use Rattle.curves.specs.MeanFn.{scal_index_of}
 use Rattle.fit_refusals.specs.Problem.{Problem, p, k, is_scalar}
@@ -64,14 +65,7 @@ module _ (q : Problem) where
       let values = values_tried d alpha s.values in
       record { values = values; effects = effects_tried values d alpha s.effects }
 
--- ---- sizes: of a proposal d, and of a step, alpha times d
-
--- the largest size of some numbers, from +0 on
-abbrev pub larger : Float → Float → Float
-larger t x = max_of t (abs_of x)
-
-unfoldable pub largest_of : List Float → Float
-largest_of d = fold larger zero d
+-- ---- the size of a step, alpha times d (that of a proposal d is `largest_of`)
 
 unfoldable pub step_of : Float → List Float → Float
 step_of alpha d = largest_of (map (mul alpha) d)

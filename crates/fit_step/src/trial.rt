@@ -1,28 +1,53 @@
 // The start of a fit, the state that a trial tries, the sizes of a direction and of a step, and lambda.
-ghost use Rattle.std.specs.Prelude.{◌≡◌, ◌≤◌, ◌+◌, ◌*◌, Float, length};
+ghost use Rattle.std.specs.Prelude.{◌≡◌, ◌≤◌, Float, length};
 ghost use Rattle.curves.specs.MeanFn.{code_of};
-ghost use Rattle.fit_refusals.specs.Problem.{p, k};
+ghost use Rattle.fit_refusals.specs.Problem.{p, direction_length};
 ghost use Rattle.fit_refusals.specs.Given.{checked};
 ghost use Rattle.fit_step.specs.Trial.{adjusted, floored, on_scal, started, start_of, moved_of, values_tried, effects_tried, tried_of};
-ghost use Rattle.fit_step.specs.Trial.{largest_of, step_of, first_lambda, lowered, raised};
+ghost use Rattle.fit_step.specs.Trial.{step_of, first_lambda, lowered, raised};
 
 use crate::State;
 use crate::project::{project_group_params, project_params};
 use curves::Curve;
 use fit_refusals::NlmmProblem;
 
-// A size below 1e-8 becomes 350.
+// What a scal of no size, below `NO_SIZE`, starts as.
+const START_SCAL: f64 = 350.0;
+
+const NO_SIZE: f64 = 1e-8;
+
+// What scal is at least in a trial.
+const LEAST_SCAL: f64 = 1e-6;
+
+// Where lambda begins, and where on curve 2 with one effect.
+const FIRST_LAMBDA: f64 = 1e-4;
+
+const SCALAR_LAMBDA: f64 = 1e-2;
+
+// What lambda is multiplied by after a win, and after a failed attempt, and its bounds.
+const LOWERING: f64 = 0.3;
+
+const RAISING: f64 = 10.0;
+
+const LEAST_LAMBDA: f64 = 1e-8;
+
+const GREATEST_LAMBDA: f64 = 1e6;
+
 fn adjust(v: f64) -> f64
     ensures { result ≡ adjusted v }
 {
-    if math::abs(v) < 1e-8 { 350.0 } else { v }
+    if math::abs(v) < NO_SIZE {
+        START_SCAL
+    } else {
+        v
+    }
 }
 
-// A value below 1e-6 becomes 1e-6.
+// As in the Rust by a comparison, which keeps a NaN: the `max` of `f64` does not.
 fn floor(v: f64) -> f64
     ensures { result ≡ floored v }
 {
-    if v < 1e-6 { 1e-6 } else { v }
+    if v < LEAST_SCAL { LEAST_SCAL } else { v }
 }
 
 // A change to scal, on the curves that have one.
@@ -36,14 +61,12 @@ fn on_scal<F: Fn(f64) -> f64>(curve: Curve, values: &mut [f64; 4], f: F)
     }
 }
 
-#[tactic(auto, using(math::specs::laws::Loops::turns, crate::specs::laws::Sized::params_most), unfolding(crate::specs::Trial::started, crate::specs::Lists::each))]
+#[tactic(auto, unfolding(curves::specs::MeanFn::n_params_of))]
 fn starting_values(q: &NlmmProblem<'_>) -> [f64; 4]
     ensures { result ≡ started (checked q.now) }
 {
     let mut values = [0.0; 4];
-    for i in 0..q.curve.n_params() {
-        values[i] = q.starts[i];
-    }
+    values[..q.starts.len()].copy_from_slice(q.starts);
     values
 }
 
@@ -61,44 +84,43 @@ pub fn start_state(q: &NlmmProblem<'_>) -> State
     }
 }
 
-// The first n numbers of a list, by alpha times those of d from place `from` on.
+// The first numbers of a list, as many as d has, by alpha times those of d.
 #[tactic(auto, using(math::specs::laws::Loops::turns), unfolding(crate::specs::Trial::moved_of, crate::specs::Lists::each))]
-fn advance(list: &mut [f64], n: usize, d: &[f64], from: usize, alpha: f64)
-    requires room { n ≤ length list.old }
-    requires long { from + n ≤ length d.now }
-    ensures { list.new ≡ moved_of n from d.now alpha list.old }
+fn advance(list: &mut [f64], d: &[f64], alpha: f64)
+    requires { length d.now ≤ length list.old }
+    ensures { list.new ≡ moved_of (length d.now) 0 d.now alpha list.old }
 {
-    for j in 0..n {
-        list[j] += alpha * d[from + j];
+    for (j, step) in d.iter().enumerate() {
+        list[j] += alpha * *step;
     }
 }
 
 // The floor comes before the projection.
-#[tactic(auto, using(crate::specs::laws::Sized::params_most), unfolding(crate::specs::Trial::values_tried))]
+#[tactic(auto, using(crate::specs::laws::Sized::params_most, crate::proofs::Laws::few_moved, crate::proofs::Laws::moved_first), unfolding(crate::specs::Trial::values_tried))]
 fn try_values(q: &NlmmProblem<'_>, values: &mut [f64; 4], d: &[f64], alpha: f64)
     requires { p (checked q.now) ≤ length d.now }
     ensures { values.new ≡ values_tried (checked q.now) d.now alpha values.old }
 {
-    advance(values, q.curve.n_params(), d, 0, alpha);
+    advance(values, &d[..q.curve.n_params()], alpha);
     on_scal(q.curve, values, floor);
     project_params(q, values);
 }
 
 // The effects are projected by the trial's values.
-#[tactic(auto, using(crate::specs::laws::Sized::all_fit), unfolding(crate::specs::Trial::effects_tried))]
+#[tactic(auto, using(crate::specs::laws::Sized::all_fit, crate::proofs::Laws::moved_part), unfolding(crate::specs::Trial::effects_tried))]
 fn try_effects(q: &NlmmProblem<'_>, values: &[f64; 4], b: &mut [f64; 64], d: &[f64], alpha: f64)
-    requires { p (checked q.now) + q.now.groups * k (checked q.now) ≤ length d.now }
+    requires { direction_length (checked q.now) ≤ length d.now }
     ensures { b.new ≡ effects_tried (checked q.now) values.now d.now alpha b.old }
 {
-    let n = q.groups * q.effects.len();
-    advance(b, n, d, q.curve.n_params(), alpha);
+    let p = q.curve.n_params();
+    advance(b, &d[p..p + q.groups * q.effects.len()], alpha);
     project_group_params(q, values, b);
 }
 
 // The state at length alpha of the direction d, after floor and projection.
 #[tactic(auto, unfolding(crate::specs::Trial::tried_of))]
 pub fn try_step(q: &NlmmProblem<'_>, s: &State, d: &[f64], alpha: f64) -> State
-    requires { p (checked q.now) + q.now.groups * k (checked q.now) ≤ length d.now }
+    requires { direction_length (checked q.now) ≤ length d.now }
     ensures { result ≡ tried_of (checked q.now) s.now d.now alpha }
 {
     let mut values = s.values;
@@ -108,16 +130,8 @@ pub fn try_step(q: &NlmmProblem<'_>, s: &State, d: &[f64], alpha: f64) -> State
     State { values, effects }
 }
 
-// The size of the largest component.
-#[tactic(auto, unfolding(crate::specs::Trial::largest_of))]
-pub fn largest(d: &[f64]) -> f64
-    ensures { result ≡ largest_of d.now }
-{
-    d.iter().fold(0.0, |t, x| math::max(t, math::abs(*x)))
-}
-
 // The size of the largest component of alpha times d.
-#[tactic(auto, unfolding(crate::specs::Trial::largest_of, crate::specs::Trial::step_of))]
+#[tactic(auto, unfolding(math::specs::Lists::largest_of, crate::specs::Trial::step_of))]
 pub fn step_size(alpha: f64, d: &[f64]) -> f64
     ensures { result ≡ step_of alpha d.now }
 {
@@ -126,12 +140,15 @@ pub fn step_size(alpha: f64, d: &[f64]) -> f64
         .fold(0.0, |t, x| math::max(t, math::abs(x)))
 }
 
-// Curve 2 with one effect starts at 1e-2.
 #[tactic(auto, unfolding(crate::specs::Trial::lambda_of))]
 pub fn first_lambda(q: &NlmmProblem<'_>) -> f64
     ensures { result ≡ first_lambda (checked q.now) }
 {
-    if q.is_scalar() { 1e-2 } else { 1e-4 }
+    if q.is_scalar() {
+        SCALAR_LAMBDA
+    } else {
+        FIRST_LAMBDA
+    }
 }
 
 // After a win.
@@ -139,7 +156,7 @@ pub fn first_lambda(q: &NlmmProblem<'_>) -> f64
 pub fn lower_lambda(lambda: f64) -> f64
     ensures { result ≡ lowered lambda }
 {
-    math::max(lambda * 0.3, 1e-8)
+    math::max(lambda * LOWERING, LEAST_LAMBDA)
 }
 
 // After a failed attempt.
@@ -147,5 +164,5 @@ pub fn lower_lambda(lambda: f64) -> f64
 pub fn raise_lambda(lambda: f64) -> f64
     ensures { result ≡ raised lambda }
 {
-    math::min(lambda * 10.0, 1e6)
+    math::min(lambda * RAISING, GREATEST_LAMBDA)
 }

@@ -1,7 +1,7 @@
 -- A fit or a search without faults has what specs/Valid.antt says. Assumes nothing.
-use Rattle.std.specs.Prelude.{ℕ, zero, suc, ◌*◌, ◌≤◌, ◌<◌, ◌≡◌, Bool, true, ◌&&◌, ◌||◌, cond, List, [], ◌∷◌, ◌++◌, T, eqb, Float, get_or}
+use Rattle.std.specs.Prelude.{ℕ, zero, suc, ◌*◌, ◌≤◌, ◌<◌, ◌≡◌, Bool, true, cond, List, [], ◌∷◌, ◌++◌, eqb, Float, get_or}
 use Rattle.std.proofs.Math.Path.{refl}
-use Rattle.std.proofs.Common.{sym, subst, zero-lt-suc, mul-le-mul, arith}
+use Rattle.std.proofs.Common.{zero-lt-suc, mul-le-mul, arith}
 use Rattle.std.proofs.Math.Bool.{false}
 use Rattle.std.proofs.Math.Dec.{ltb}
 use Rattle.std.specs.Float.Ieee.{nan, lt, is_nan}
@@ -9,6 +9,9 @@ use Rattle.std.specs.Float.{inf, fin}
 use borrow.Author.Tests.{ltb-true, ltb-false, eqb-true, eqb-false, eq-eqb, not-false}
 use Rattle.math.specs.Basic.{is_finite}
 use Rattle.math.specs.laws.Lists.{every_at}
+use Rattle.math.specs.laws.Numbers as Numbers
+use Rattle.math.specs.laws.Order.{clash', above_num}
+use Rattle.std.proofs.lemmas.Bool.{or_parts}
 use Rattle.curves.specs.MeanFn.{n_params_of}
 use Rattle.fit_refusals.specs.laws.Lists.{order_at}
 use Rattle.fit_refusals.specs.Tests.{is_lower, is_upper, bad_code, bad_readings, bad_groups, bad_effects, bad_lengths, bad_theta, bad_numbers, bad_order, bad_outputs, too_many}
@@ -17,9 +20,6 @@ use Rattle.fit_refusals.specs.Valid.{Sized, Valid, ValidFit, ValidSearch}
 use Rattle.fit_refusals.specs.Faults.{early, wrong_lengths, wrong_numbers, wrong_order, fit_later, search_later, first_from, refusal_of, search_refusal_of}
 
 -- ---- no first fault: no fault
-
-clash : {X : Type 0} → true ≡ false → X
-clash e = absurd (subst T e tt)
 
 pub first_none : (i : ℕ) (b : Bool) (l : List Bool) → 0 < i → first_from i (b ∷ l) ≡ 0 → (b ≡ false) × (first_from (suc i) l ≡ 0)
 unfolding first_from
@@ -34,14 +34,6 @@ none_at i [] p h j = refl
 none_at i (b ∷ l) p h zero = (first_none i b l p h).0
 none_at i (b ∷ l) p h (suc j) = none_at (suc i) l (zero-lt-suc i) (first_none i b l p h).1 j
 
-neither : (a b : Bool) → (a || b) ≡ false → (a ≡ false) × (b ≡ false)
-neither true b h = clash h
-neither false b h = (refl, h)
-
-not_both : (a b : Bool) → (a && b) ≡ false → a ≡ true → b ≡ false
-not_both true b h e = h
-not_both false b h e = clash (sym e)
-
 within : {i n l : ℕ} → l ≡ n → i < n → i < l
 within e h = omega arith
 
@@ -53,14 +45,14 @@ module _ (q : Problem) (ok : first_from 1 (early q) ≡ 0) where
   pub sized : Sized q
   unfolding bad_code bad_readings bad_groups bad_effects
   sized =
-      let code = neither _ _ (no_early 0) in
-      let fourth = neither _ _ (no_early 1) in
-      let third = neither _ _ fourth.0 in
-      let readings = neither _ _ third.0 in
-      let groups = neither _ _ (no_early 2) in
-      let equal = neither _ _ (no_early 4) in
-      let index = neither _ _ equal.0 in
-      let effects = neither _ _ index.0 in
+      let code = or_parts _ _ (no_early 0) in
+      let fourth = or_parts _ _ (no_early 1) in
+      let third = or_parts _ _ fourth.0 in
+      let readings = or_parts _ _ third.0 in
+      let groups = or_parts _ _ (no_early 2) in
+      let equal = or_parts _ _ (no_early 4) in
+      let index = or_parts _ _ equal.0 in
+      let effects = or_parts _ _ index.0 in
       record {
         code_low = ltb-false _ _ code.0;
         code_high = ltb-false _ _ code.1;
@@ -74,7 +66,7 @@ module _ (q : Problem) (ok : first_from 1 (early q) ≡ 0) where
         effects_low = ltb-false _ _ effects.0;
         effects_high = ltb-false _ _ effects.1;
         index = λ i h. ltb-true _ _ (every_at (λ (j : ℕ). ltb j (p q)) q.effects i 0 (not-false _ index.1) h);
-        distinct = λ e. eqb-false _ _ (not_both _ _ equal.1 (eq-eqb _ _ e));
+        distinct = λ e. eqb-false _ _ (rw (eq-eqb _ _ e) at equal.1);
       }
 
 -- and without 6, 7 and 8, theta left out
@@ -82,17 +74,17 @@ module _ (q : Problem) (size : Sized q) (lengths : wrong_lengths q ≡ false) (n
   pub valid_of : Valid q
   unfolding bad_lengths bad_numbers bad_order
   valid_of =
-      let l5 = neither _ _ lengths in
-      let l4 = neither _ _ l5.0 in
-      let l3 = neither _ _ l4.0 in
-      let l2 = neither _ _ l3.0 in
-      let n7 = neither _ _ numbers in
-      let n6 = neither _ _ n7.0 in
-      let n5 = neither _ _ n6.0 in
-      let n4 = neither _ _ n5.0 in
-      let n3 = neither _ _ n4.0 in
-      let n2 = neither _ _ n3.0 in
-      let o = neither _ _ order in
+      let l5 = or_parts _ _ lengths in
+      let l4 = or_parts _ _ l5.0 in
+      let l3 = or_parts _ _ l4.0 in
+      let l2 = or_parts _ _ l3.0 in
+      let n7 = or_parts _ _ numbers in
+      let n6 = or_parts _ _ n7.0 in
+      let n5 = or_parts _ _ n6.0 in
+      let n4 = or_parts _ _ n5.0 in
+      let n3 = or_parts _ _ n4.0 in
+      let n2 = or_parts _ _ n3.0 in
+      let o = or_parts _ _ order in
       let starts = eqb-true _ _ (not-false _ l2.0) in
       let lower = eqb-true _ _ (not-false _ l2.1) in
       let upper = eqb-true _ _ (not-false _ l3.1) in
@@ -131,9 +123,9 @@ module _ (q : Problem) (values effects rounds : ℕ) (ok : refusal_of q values e
   pub fit_valid : ValidFit q values effects rounds
   unfolding refusal_of bad_theta bad_outputs too_many
   fit_valid =
-      let six = neither _ _ (no_fault 5) in
-      let seven = neither _ _ (no_fault 6) in
-      let nine = neither _ _ (no_fault 8) in
+      let six = or_parts _ _ (no_fault 5) in
+      let seven = or_parts _ _ (no_fault 6) in
+      let nine = or_parts _ _ (no_fault 8) in
       record {
         valid = valid_of q (sized q (first_part 1 (early q) _ (zero-lt-suc 0) ok)) six.0 seven.0 (no_fault 7);
         theta = eqb-true _ _ (not-false _ six.1);
@@ -159,8 +151,8 @@ module _ (q : Problem) (rounds narrowings : ℕ) (ok : search_refusal_of q round
   unfolding search_refusal_of too_many
   search_valid =
       let size = sized q (first_part 1 (early q) _ (zero-lt-suc 0) ok) in
-      let ten = neither _ _ (no_search_fault 9) in
-      let two = neither _ _ ten.0 in
+      let ten = or_parts _ _ (no_search_fault 9) in
+      let two = or_parts _ _ ten.0 in
       record {
         valid = valid_of q size (no_search_fault 5) (no_search_fault 6) (no_search_fault 7);
         one_effect = one_of_two size.effects_low size.effects_high (eqb-false _ _ two.1);
@@ -172,8 +164,8 @@ module _ (q : Problem) (rounds narrowings : ℕ) (ok : search_refusal_of q round
   pub search_fits : (t : Float) → is_finite t ≡ true → refusal_of (at_theta q t) (p q) (q.groups * k q) rounds ≡ 0
   unfolding refusal_of first_from bad_outputs
   search_fits t h =
-      let ten = neither _ _ (no_search_fault 9) in
-      let two = neither _ _ ten.0 in
+      let ten = or_parts _ _ (no_search_fault 9) in
+      let two = or_parts _ _ ten.0 in
       let few : too_many rounds ≡ false = two.0 in
       let theta : bad_theta (k q) 1 ≡ false = one_theta (k q) two.1 in
       simp (
@@ -207,19 +199,13 @@ pub few_effects : (q : Problem) → Sized q → q.groups * k q ≤ 64
 few_effects q s = mul-le-mul s.groups_high s.effects_high
 
 pub finite_number : (x : Float) → is_finite x ≡ true → is_nan x ≡ false
-unfolding is_finite is_nan
-finite_number nan h = clash (sym h)
-finite_number (inf s) h = refl
-finite_number (fin s m e) h = refl
+finite_number x h = Numbers.finite_number x h
 
 pub lower_number : (x : Float) → is_lower x ≡ true → is_nan x ≡ false
 unfolding lt is_nan
-lower_number nan h = clash (sym h)
+lower_number nan h = clash' h
 lower_number (inf s) h = refl
 lower_number (fin s m e) h = refl
 
 pub upper_number : (x : Float) → is_upper x ≡ true → is_nan x ≡ false
-unfolding lt is_nan
-upper_number nan h = clash (sym h)
-upper_number (inf s) h = refl
-upper_number (fin s m e) h = refl
+upper_number x h = above_num (inf true) x h

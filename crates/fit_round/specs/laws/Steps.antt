@@ -9,7 +9,8 @@ use Rattle.math.specs.Basic.{mul, one, half}
 use Rattle.block_solve.specs.declared.normal.BlockNormal.{BlockNormal}
 use Rattle.fit_refusals.specs.Problem.{Problem}
 use Rattle.fit_step.specs.declared.State.{State}
-use Rattle.fit_step.specs.Trial.{tried_of, largest_of, step_of, lowered, raised}
+use Rattle.math.specs.Lists.{largest_of}
+use Rattle.fit_step.specs.Trial.{tried_of, step_of, lowered, raised}
 use Rattle.fit_penalized.specs.Penalized.{sum_of}
 use Rattle.fit_round.specs.declared.Evaluated.{Evaluated}
 use Rattle.fit_round.specs.Round.{1e-10, Trace, ended, tried, last_of, direction, lengths, along, attempts}

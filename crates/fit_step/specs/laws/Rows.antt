@@ -4,6 +4,7 @@ use Rattle.std.specs.Float.Ieee.{round, of_bits}
 use Rattle.std.specs.Float.{inf}
 use Rattle.std.specs.Float.Ieee as Ieee
 use Rattle.math.specs.Basic.{abs_of, max_of, min_of, is_finite, one, half}
+use Rattle.math.specs.Lists.{largest_of}
 use Rattle.math.specs.Loops.{iter}
 use Rattle.math.specs.Rationals.{over, minus, num}
 use Rattle.curves.specs.MeanFn.{n_params_of, scal_index_of}
@@ -12,7 +13,7 @@ use Rattle.fit_step.specs.declared.State.{State}
 use Rattle.fit_step.specs.Lists.{each}
 use Rattle.fit_step.specs.Constants.{1e-2, 1e-4}
 use Rattle.fit_step.specs.Project.{project_of, slot_of, project_groups}
-use Rattle.fit_step.specs.Trial.{on_scal, started, start_of, moved_of, values_tried, effects_tried, tried_of, largest_of, step_of, lambda_of, lowered, raised}
+use Rattle.fit_step.specs.Trial.{on_scal, started, start_of, moved_of, values_tried, effects_tried, tried_of, step_of, lambda_of, lowered, raised}
 
 -- `unfolding state_computes` opens all that the values of this crate are computed by
 unfoldable pub state_computes : Unit {0}

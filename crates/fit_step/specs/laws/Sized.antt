@@ -1,13 +1,19 @@
 -- p is at most 4, and the effects fit their 64 places.
-use Rattle.std.specs.Prelude.{ℕ, ◌+◌, ◌*◌, ◌≤◌, ◌<◌}
-use Rattle.std.proofs.Common.{mul-le-mul_right, arith}
+use Rattle.std.specs.Prelude.{ℕ, ◌+◌, ◌*◌, ◌≤◌, ◌<◌, ◌≡◌}
+use Rattle.std.proofs.Common.{lt_of_lt_of_le, mul-le-mul_right, arith}
 use Rattle.math.specs.laws.Parts.{group_fits}
 use Rattle.curves.specs.MeanFn.{n_params_of}
+use Rattle.fit_refusals.specs.Problem.{Problem}
+use Rattle.fit_refusals.specs.Valid.{Sized}
 use Rattle.fit_refusals.specs.laws.Valid.{params_few}
+use Rattle.fit_step.specs.Sized.{Effects, Readings}
 
 -- p is at most 4
 pub params_most : (code : ℕ) → n_params_of code ≤ 4
 params_most code = (params_few code).1
+
+pub few_params : (p code : ℕ) → p ≡ n_params_of code → p ≤ 4
+few_params p code e = rw e (params_most code)
 
 -- the effects of at most 32 groups lie within the 64 places, and so do one group's
 pub all_fit : (groups k : ℕ) → groups ≤ 32 → k ≤ 2 → groups * k ≤ 64
@@ -15,3 +21,17 @@ all_fit groups k p q = omega (arith, mul-le-mul_right k p)
 
 pub slot_fits : (g groups k : ℕ) → g < groups → groups ≤ 32 → k ≤ 2 → g * k + k ≤ 64
 slot_fits g groups k p q r = omega (arith, group_fits g groups k p, all_fit groups k q r)
+
+-- a problem without the faults 1 to 5 has these sizes
+module _ (q : Problem) (h : Sized q) where
+  pub effects_sized : Effects q.effects
+  effects_sized = record { some = h.effects_low; two = h.effects_high; within = λ r i. lt_of_lt_of_le (h.index r i) (params_most q.code) }
+
+  pub readings_sized : Readings q.doses q.grams q.group
+  readings_sized =
+      record {
+        many = h.readings_high;
+        grams_each = h.grams;
+        group_each = h.group;
+        grouped = λ i p. lt_of_lt_of_le (h.member i (rw h.group p)) h.groups_high;
+      }

@@ -6,4 +6,4 @@ use Rattle.fit_step.specs.Trial.{moved_at}
 use Rattle.fit_step.proofs.trial.advance.Given as goal
 
 abbrev pub invariant-loop-j : goal.invariant-loop-j
-invariant-loop-j l = l.list ≡ iter (each_at (moved_at l.from l.d l.alpha)) l.j l.initial.list
+invariant-loop-j l = l.list ≡ iter (each_at (moved_at 0 l.d l.alpha)) l.j l.initial.list
