@@ -2,14 +2,14 @@
 // solved, and each group's effects follow from it.
 #![tactic(auto, using(linalg::specs::laws::Loops::loops), unfolding(crate::specs::laws::Steps::direction_steps))]
 
-ghost use Rattle.std.specs.Prelude.{◌≡◌, ◌+◌, ◌*◌, ◌≤◌, ◌<◌, length};
-ghost use Rattle.block_solve.specs.Direction.{damped_fixed, damped_block, row_of, group_of, eliminated_of, solved_of, is_direction, left_in, finished_of};
+ghost use Rattle.std.specs.Prelude.{◌≡◌, ◌<◌, length};
+ghost use Rattle.block_solve.specs.Direction.{damped_fixed, group_of, eliminated_of, solved_of, is_direction, left_in};
 
 use crate::normal::BlockNormal;
 use group_blocks::{Group, Shape, Solution, damped, write_direction};
 use linalg::elimination::{System, solve};
 
-// After the groups: the fixed system that is left, and each group's solution.
+// After the groups: the fixed system that is left, and each group's solution. There is no heap, so there are 32 places.
 #[derive(Clone, Copy)]
 struct Eliminated {
     s: System,
@@ -17,12 +17,11 @@ struct Eliminated {
 }
 
 impl BlockNormal {
-    fn damped_fixed(&self, p: usize, damping: f64) -> System
-        requires { p ≤ 4 }
-        ensures { result ≡ damped_fixed self.now p damping }
+    fn damped_fixed(&self, shape: Shape, damping: f64) -> System
+        ensures { result ≡ damped_fixed self.now shape.p damping }
     {
         let mut a = self.fixed;
-        for i in 0..p {
+        for i in 0..shape.p {
             a[i * 4 + i] = damped(self.fixed[i * 4 + i], damping);
         }
         System {
@@ -31,39 +30,25 @@ impl BlockNormal {
         }
     }
 
-    fn damped_block(&self, g: usize, damping: f64) -> [[f64; 2]; 2]
-        requires { g < 32 }
-        ensures { result ≡ damped_block self.now.random g damping }
-    {
-        let at = g * 4;
-        [
-            [damped(self.random[at], damping), self.random[at + 1]],
-            [self.random[at + 2], damped(self.random[at + 3], damping)],
-        ]
-    }
-
-    // Row i of group g's cross block.
-    fn cross_row(&self, g: usize, i: usize) -> (f64, f64)
-        requires { (g < 32) × (i < 4) }
-        ensures { result ≡ row_of self.now.cross g i }
-    {
-        let at = g * 8 + i * 2;
-        (self.cross[at], self.cross[at + 1])
-    }
-
     // Group g's part, its block damped.
     fn group(&self, g: usize, damping: f64) -> Group
         requires { g < 32 }
         ensures { result ≡ group_of self.now g damping }
     {
+        let m = g * 4;
+        let y = g * 2;
+        let c = g * 8;
         Group {
-            block: self.damped_block(g, damping),
-            rhs: (self.random_rhs[g * 2], self.random_rhs[g * 2 + 1]),
+            block: [
+                [damped(self.random[m], damping), self.random[m + 1]],
+                [self.random[m + 2], damped(self.random[m + 3], damping)],
+            ],
+            rhs: (self.random_rhs[y], self.random_rhs[y + 1]),
             cross: [
-                self.cross_row(g, 0),
-                self.cross_row(g, 1),
-                self.cross_row(g, 2),
-                self.cross_row(g, 3),
+                (self.cross[c], self.cross[c + 1]),
+                (self.cross[c + 2], self.cross[c + 3]),
+                (self.cross[c + 4], self.cross[c + 5]),
+                (self.cross[c + 6], self.cross[c + 7]),
             ],
         }
     }
@@ -77,7 +62,7 @@ impl BlockNormal {
             columns: [(0.0, 0.0); 4],
         };
         let mut e = Eliminated {
-            s: self.damped_fixed(shape.p, damping),
+            s: self.damped_fixed(shape, damping),
             solved: [none; 32],
         };
         for g in 0..shape.groups {
@@ -89,28 +74,24 @@ impl BlockNormal {
         Some(e)
     }
 
-    fn direction(&self, shape: Shape, damping: f64, out: &mut [f64]) -> bool
-        requires { length out.old ≡ shape.p + shape.groups * shape.k }
-        ensures { (result ≡ is_direction (finished_of self.now shape.p shape.k shape.groups damping)) × (out.new ≡ left_in (finished_of self.now shape.p shape.k shape.groups damping) out.old) }
-    {
-        let Some(e) = self.eliminate_groups(shape, damping) else {
-            return false;
-        };
-        let Some(x) = solve(e.s, shape.p) else {
-            return false;
-        };
-        write_direction(out, shape, x, &e.solved)
-    }
-
     // Whether there is a direction for p curve values, k effects and groups groups; it is then in out.
     // A zero pivot and arguments that do not fit leave out as it was.
-    // A flag beside a lent list, not an Option: an array would have to be as long as the longest direction.
+    // A flag beside the lent list: of an Option<&[f64]> that lends it back, what out ends as takes an ensures*, which has no proof here.
     pub fn solve(self, p: usize, k: usize, groups: usize, damping: f64, out: &mut [f64]) -> bool
         ensures { (result ≡ is_direction (solved_of self p k groups damping (length out.old))) × (out.new ≡ left_in (solved_of self p k groups damping (length out.old)) out.old) }
     {
         let Some(shape) = Shape::new(p, k, groups) else {
             return false;
         };
-        out.len() == shape.size() && self.direction(shape, damping, out)
+        if out.len() != shape.size() {
+            return false;
+        }
+        let Some(e) = self.eliminate_groups(shape, damping) else {
+            return false;
+        };
+        let Some(x) = solve(e.s, p) else {
+            return false;
+        };
+        write_direction(out, shape, x, &e.solved)
     }
 }

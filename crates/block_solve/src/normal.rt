@@ -1,9 +1,9 @@
 // The normal blocks of at most four curve values, two effects and 32 groups.
-#![tactic(auto, using(crate::proofs::Blocks::blocks), unfolding(crate::specs::Blocks::products_of, crate::specs::Blocks::multiples_of, crate::specs::laws::Steps::normal_steps))]
+#![tactic(auto, using(crate::proofs::Blocks::blocks, crate::specs::laws::Blocks::reading_lent), unfolding(crate::specs::Blocks::products_of, crate::specs::Blocks::multiples_of, crate::specs::laws::Steps::normal_steps))]
 
 ghost use Rattle.std.specs.Prelude.{◌≡◌, ◌+◌, ◌*◌, ◌≤◌, ◌<◌, length};
-ghost use Rattle.block_solve.specs.Blocks.{products_of, multiples_of, fixed_of, fixed_rhs_of, cross_of, random_of, random_rhs_of};
-ghost use Rattle.block_solve.specs.Normal.{empty_of, accumulate_of, times_of, prior_group, add_priors, prior_of};
+ghost use Rattle.block_solve.specs.Blocks.{products_of, multiples_of};
+ghost use Rattle.block_solve.specs.Normal.{empty_of, add_reading, accumulate_of, times_of, prior_group, prior_of};
 
 // fixed: 4 by 4. For each group, cross: 4 by 2, random: 2 by 2, random_rhs: 2. All row after row, in the flat
 // arrays that document 01 names.
@@ -17,6 +17,7 @@ pub struct BlockNormal {
 }
 
 // The products of two lists, added to the rows of a block that begins at from, stride places to a row.
+#[inline(always)]
 fn add_products(blocks: &mut [f64], from: usize, stride: usize, rows: &[f64], columns: &[f64])
     requires { (length columns.now ≤ stride) × (from + length rows.now * stride ≤ length blocks.old) }
     ensures { blocks.new ≡ products_of (λ i. from + i * stride) (length rows.now) rows.now (length columns.now) columns.now blocks.old }
@@ -29,6 +30,7 @@ fn add_products(blocks: &mut [f64], from: usize, stride: usize, rows: &[f64], co
 }
 
 // The multiples of a list by y, added from the place from on.
+#[inline(always)]
 fn add_multiples(list: &mut [f64], from: usize, factors: &[f64], y: f64)
     requires { from + length factors.now ≤ length list.old }
     ensures { list.new ≡ multiples_of (λ i. from + i) (length factors.now) factors.now y list.old }
@@ -36,43 +38,6 @@ fn add_multiples(list: &mut [f64], from: usize, factors: &[f64], y: f64)
     for (i, a) in factors.iter().enumerate() {
         list[from + i] += a * y;
     }
-}
-
-// What one reading adds to each block: f has the gradients by the p curve values, r those by the k effects,
-// y is the residual. The blocks are lent one by one, so that a loop over readings copies none of them.
-pub fn add_fixed(fixed: &mut [f64; 16], p: usize, f: [f64; 4])
-    requires { p ≤ 4 }
-    ensures { fixed.new ≡ fixed_of p f fixed.old }
-{
-    add_products(fixed, 0, 4, &f[..p], &f[..p]);
-}
-
-pub fn add_fixed_rhs(rhs: &mut [f64; 4], p: usize, f: [f64; 4], y: f64)
-    requires { p ≤ 4 }
-    ensures { rhs.new ≡ fixed_rhs_of p f y rhs.old }
-{
-    add_multiples(rhs, 0, &f[..p], y);
-}
-
-pub fn add_cross(cross: &mut [f64; 256], group: usize, p: usize, f: [f64; 4], k: usize, r: [f64; 2])
-    requires { (group < 32) × ((p ≤ 4) × (k ≤ 2)) }
-    ensures { cross.new ≡ cross_of group p f k r cross.old }
-{
-    add_products(cross, group * 8, 2, &f[..p], &r[..k]);
-}
-
-pub fn add_random(random: &mut [f64; 128], group: usize, k: usize, r: [f64; 2])
-    requires { (group < 32) × (k ≤ 2) }
-    ensures { random.new ≡ random_of group k r random.old }
-{
-    add_products(random, group * 4, 2, &r[..k], &r[..k]);
-}
-
-pub fn add_random_rhs(rhs: &mut [f64; 64], group: usize, k: usize, r: [f64; 2], y: f64)
-    requires { (group < 32) × (k ≤ 2) }
-    ensures { rhs.new ≡ random_rhs_of group k r y rhs.old }
-{
-    add_multiples(rhs, group * 2, &r[..k], y);
 }
 
 // Row i of m times one group's effects.
@@ -100,7 +65,21 @@ impl BlockNormal {
         }
     }
 
-    // A reading of a group; one for which there is no place adds nothing.
+    // What one reading of a group adds, in place: f has the gradients by the curve values, r those by the effects,
+    // y is the residual.
+    pub fn add_reading(&mut self, group: usize, f: &[f64], r: &[f64], y: f64)
+        requires { (group < 32) × ((length f.now ≤ 4) × (length r.now ≤ 2)) }
+        ensures { self.new ≡ add_reading group (length f.now) f.now (length r.now) r.now y self.old }
+    {
+        add_products(&mut self.fixed, 0, 4, f, f);
+        add_multiples(&mut self.fixed_rhs, 0, f, y);
+        add_products(&mut self.cross, group * 8, 2, f, r);
+        add_products(&mut self.random, group * 4, 2, r, r);
+        add_multiples(&mut self.random_rhs, group * 2, r, y);
+    }
+
+    // The same by value, for any sizes: a reading for which there is no place adds nothing.
+    // Document 01 names this form; a fit adds its readings in place.
     pub fn accumulate(
         mut self,
         group: usize,
@@ -113,11 +92,7 @@ impl BlockNormal {
         ensures { result ≡ accumulate_of group p f k r y self }
     {
         if group < 32 && p <= 4 && k <= 2 {
-            add_fixed(&mut self.fixed, p, f);
-            add_fixed_rhs(&mut self.fixed_rhs, p, f, y);
-            add_cross(&mut self.cross, group, p, f, k, r);
-            add_random(&mut self.random, group, k, r);
-            add_random_rhs(&mut self.random_rhs, group, k, r, y);
+            self.add_reading(group, &f[..p], &r[..k], y);
         }
         self
     }
@@ -135,16 +110,6 @@ impl BlockNormal {
         }
     }
 
-    fn add_priors(&mut self, k: usize, groups: usize, inverse: [[f64; 2]; 2], b: &[f64])
-        requires { (k ≤ 2) × ((groups ≤ 32) × (length b.now ≡ groups * k)) }
-        ensures { self.new ≡ add_priors k groups inverse b.now self.old }
-    {
-        for g in 0..groups {
-            let from = g * k;
-            self.add_group_prior(g, inverse, &b[from..from + k]);
-        }
-    }
-
     // Each group's block gets the covariance's inverse, and its right-hand side loses the inverse
     // times its effects b. Effects for which there is no place add nothing.
     pub fn add_prior(
@@ -157,7 +122,10 @@ impl BlockNormal {
         ensures { result ≡ prior_of k groups inverse b.now self }
     {
         if k <= 2 && groups <= 32 && b.len() == groups * k {
-            self.add_priors(k, groups, inverse, b);
+            for g in 0..groups {
+                let from = g * k;
+                self.add_group_prior(g, inverse, &b[from..from + k]);
+            }
         }
         self
     }

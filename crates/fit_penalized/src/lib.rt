@@ -10,7 +10,7 @@ ghost use Rattle.fit_refusals.specs.Given.{checked};
 ghost use Rattle.fit_penalized.specs.Penalized.{mean_at, rss_of, penalty_sum, Means};
 
 use curves::Mean;
-use fit_refusals::NlmmProblem;
+use fit_refusals::{MAX_READINGS, NlmmProblem};
 use fit_step::State;
 use re_cov::re_penalty;
 
@@ -29,7 +29,7 @@ fn mean_at(q: &NlmmProblem<'_>, s: &State, i: usize) -> Mean
 
 // The rss. Each reading's curve is worked out once and kept in means, for the normal blocks.
 #[tactic(auto, using(math::specs::laws::Loops::turns), unfolding(crate::specs::Penalized::rss_of))]
-pub fn evaluate(q: &NlmmProblem<'_>, s: &State, means: &mut [Mean; 512]) -> f64
+pub fn evaluate(q: &NlmmProblem<'_>, s: &State, means: &mut [Mean; MAX_READINGS]) -> f64
     ensures rss { result ≡ rss_of (checked q.now) s.now }
     ensures kept { Means (checked q.now) s.now means.new }
 {

@@ -7,11 +7,9 @@ ghost use Rattle.fit_refusals.specs.Given.{checked};
 ghost use Rattle.fit_penalized.specs.Penalized.{Means};
 ghost use Rattle.fit_penalized.specs.Normal.{fixed_gradients, random_gradients, reading_of, readings_of, blocks_of};
 
-use block_solve::normal::{
-    BlockNormal, add_cross, add_fixed, add_fixed_rhs, add_random, add_random_rhs,
-};
+use block_solve::normal::BlockNormal;
 use curves::Mean;
-use fit_refusals::NlmmProblem;
+use fit_refusals::{MAX_READINGS, NlmmProblem};
 use fit_step::State;
 
 // The gradient by value j, or zero where its bounds are equal. Past the curve's last value there are none.
@@ -51,8 +49,8 @@ pub fn random_gradients(q: &NlmmProblem<'_>, y: Mean) -> [f64; 2]
     }
 }
 
-// Reading i, whose curve is y, accumulated block by block, in place.
-#[tactic(auto, using(fit_step::specs::laws::Sized::params_most, block_solve::specs::laws::Blocks::adds_to_each, block_solve::specs::laws::Normal::accumulate_fits), unfolding(crate::specs::Normal::reading_of))]
+// Reading i, whose curve is y, accumulated in place.
+#[tactic(auto, using(fit_step::specs::laws::Sized::params_most, block_solve::specs::laws::Blocks::reading_lent, block_solve::specs::laws::Normal::accumulate_fits), unfolding(crate::specs::Normal::reading_of))]
 fn add_reading(q: &NlmmProblem<'_>, i: usize, y: Mean, n: &mut BlockNormal)
     requires { i < length q.now.doses.now }
     ensures { n.new ≡ reading_of (checked q.now) i y n.old }
@@ -61,18 +59,12 @@ fn add_reading(q: &NlmmProblem<'_>, i: usize, y: Mean, n: &mut BlockNormal)
     let k = q.effects.len();
     let f = fixed_gradients(q, y);
     let r = random_gradients(q, y);
-    let g = q.group[i];
-    let e = q.grams[i] - y.mu;
-    add_fixed(&mut n.fixed, p, f);
-    add_fixed_rhs(&mut n.fixed_rhs, p, f, e);
-    add_cross(&mut n.cross, g, p, f, k, r);
-    add_random(&mut n.random, g, k, r);
-    add_random_rhs(&mut n.random_rhs, g, k, r, e);
+    n.add_reading(q.group[i], &f[..p], &r[..k], q.grams[i] - y.mu);
 }
 
 // The readings in order, from their curves in means.
 #[tactic(auto, using(math::specs::laws::Loops::turns), unfolding(crate::specs::Normal::readings_of))]
-fn readings(q: &NlmmProblem<'_>, s: &State, means: &[Mean; 512]) -> BlockNormal
+fn readings(q: &NlmmProblem<'_>, s: &State, means: &[Mean; MAX_READINGS]) -> BlockNormal
     requires { Means (checked q.now) s.now means.now }
     ensures { result ≡ readings_of (checked q.now) s.now }
 {
@@ -88,7 +80,7 @@ fn readings(q: &NlmmProblem<'_>, s: &State, means: &[Mean; 512]) -> BlockNormal
 pub fn normal(
     q: &NlmmProblem<'_>,
     s: &State,
-    means: &[Mean; 512],
+    means: &[Mean; MAX_READINGS],
     inverse: [[f64; 2]; 2],
 ) -> BlockNormal
     requires { Means (checked q.now) s.now means.now }

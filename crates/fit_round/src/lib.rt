@@ -4,19 +4,25 @@
 #![tactic(auto)]
 
 ghost use Rattle.std.specs.Prelude.{◌≡◌, ◌≤◌, ◌+◌, ◌*◌, length};
-ghost use Rattle.fit_refusals.specs.Problem.{p, k};
+ghost use Rattle.fit_refusals.specs.Problem.{direction_length};
 ghost use Rattle.fit_refusals.specs.Given.{checked};
-ghost use Rattle.fit_step.specs.Trial.{tried_of};
 ghost use Rattle.fit_penalized.specs.Penalized.{Means};
 ghost use Rattle.fit_round.specs.Rounds.{evaluated_of, ComesTo, Kept};
 
 use block_solve::normal::BlockNormal;
 use curves::Mean;
 use fit_penalized::{evaluate, penalties};
-use fit_refusals::NlmmProblem;
+use fit_refusals::{MAX_READINGS, NlmmProblem};
 use fit_step::State;
 use fit_step::trial::{lower_lambda, raise_lambda, step_size, try_step};
 use math::largest;
+
+// How many attempts a round has, how many lengths an attempt, and below what a proposal ends the fit as converged.
+const ATTEMPTS: usize = 12;
+
+const LENGTHS: usize = 20;
+
+const NEAR: f64 = 1e-10;
 
 // A state with its rss and its penalised sum.
 #[derive(Clone, Copy)]
@@ -34,7 +40,7 @@ pub struct Winner {
     pub step: f64,
 }
 
-// How a round ends: with a winner; with a proposal below 1e-10; or without a direction, or with no attempt left.
+// How a round ends: with a winner; with a proposal below NEAR; or without a direction, or with no attempt left.
 #[derive(Clone, Copy)]
 pub enum End {
     Won(Winner),
@@ -61,7 +67,7 @@ pub struct Ended {
 
 // The rss and the penalised sum of a state; its curves are left in means.
 #[tactic(auto, using(fit_step::specs::laws::Sized::all_fit), unfolding(fit_penalized::specs::Penalized::sum_of))]
-pub fn evaluate_state(q: &NlmmProblem<'_>, state: State, means: &mut [Mean; 512]) -> Evaluated
+pub fn evaluate_state(q: &NlmmProblem<'_>, state: State, means: &mut [Mean; MAX_READINGS]) -> Evaluated
     ensures same { result.state ≡ state }
     ensures sums { result ≡ evaluated_of (checked q.now) result.state }
     ensures kept { Means (checked q.now) result.state means.new }
@@ -71,22 +77,6 @@ pub fn evaluate_state(q: &NlmmProblem<'_>, state: State, means: &mut [Mean; 512]
     Evaluated { state, rss, sum }
 }
 
-// One trial: the state at length alpha of the direction d, after floor and projection.
-fn trial(
-    q: &NlmmProblem<'_>,
-    s: &State,
-    d: &[f64],
-    alpha: f64,
-    means: &mut [Mean; 512],
-) -> Evaluated
-    requires { length d.now ≡ p (checked q.now) + q.now.groups * k (checked q.now) }
-    ensures tried { result.state ≡ tried_of (checked q.now) s.now d.now alpha }
-    ensures sums { result ≡ evaluated_of (checked q.now) result.state }
-    ensures kept { Means (checked q.now) result.state means.new }
-{
-    evaluate_state(q, try_step(q, s, d, alpha), means)
-}
-
 // One round: up to 12 attempts of 20 lengths each. The first winner leaves both.
 pub fn round(
     q: &NlmmProblem<'_>,
@@ -94,9 +84,9 @@ pub fn round(
     n: BlockNormal,
     first: f64,
     d: &mut [f64],
-    means: &mut [Mean; 512],
+    means: &mut [Mean; MAX_READINGS],
 ) -> Outcome
-    requires { length d.old ≡ p (checked q.now) + q.now.groups * k (checked q.now) }
+    requires { length d.old ≡ direction_length (checked q.now) }
     ensures comes { ComesTo (checked q.now) x.now n first result }
     ensures few { result.trials ≤ 240 }
     ensures kept { Kept (checked q.now) means.new result.end }
@@ -105,35 +95,35 @@ pub fn round(
     let k = q.effects.len();
     let mut lambda = first;
     let mut trials = 0;
-    let mut end = End::Lost;
-    'attempts: for attempt in 0..12usize {
+    for attempt in 0..ATTEMPTS {
         if !n.solve(p, k, q.groups, lambda, d) {
             return Outcome {
                 end: End::Lost,
                 trials,
             };
         }
-        if largest(d) < 1e-10 {
+        if largest(d) < NEAR {
             return Outcome {
                 end: End::Converged,
                 trials,
             };
         }
         let mut alpha = 1.0;
-        for t in 0..20usize {
-            let y = trial(q, &x.state, d, alpha, means);
+        for t in 0..LENGTHS {
+            let y = evaluate_state(q, try_step(q, &x.state, d, alpha), means);
             trials += 1;
             if y.sum < x.sum {
-                end = End::Won(Winner {
+                let end = End::Won(Winner {
                     at: y,
                     lambda: lower_lambda(lambda),
                     step: step_size(alpha, d),
                 });
-                break 'attempts;
+                return Outcome { end, trials };
             }
             alpha *= 0.5;
         }
         lambda = raise_lambda(lambda);
     }
+    let end = End::Lost;
     Outcome { end, trials }
 }

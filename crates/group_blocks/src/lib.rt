@@ -44,7 +44,7 @@ impl Shape {
 }
 
 // One group's part of the normal blocks: its block, damped, its right-hand side, and its cross block, a row for
-// each curve value.
+// each curve value. There is no heap, so each has as many places as the largest fit needs.
 #[derive(Clone, Copy)]
 pub struct Group {
     pub block: [[f64; 2]; 2],
@@ -66,7 +66,7 @@ pub fn damped(x: f64, damping: f64) -> f64
     x + damping * math::max(x, 1e-8)
 }
 
-// A row of k numbers times a column.
+// A row of k numbers times a column. k is a count, and with one effect the second product is left out.
 fn dot(k: usize, row: (f64, f64), column: (f64, f64)) -> f64
     ensures { result ≡ dot_of k row column }
 {
@@ -117,17 +117,18 @@ impl Group {
     }
 }
 
-// The columns times the fixed values x, from 0 on.
-fn columns_times(w: &[(f64, f64); 4], x: [f64; 4], p: usize) -> (f64, f64)
-    requires { p ≤ 4 }
-    ensures { result ≡ columns_times w.now x p }
-{
-    let mut t = (0.0, 0.0);
-    for j in 0..p {
-        let (a, b) = w[j];
-        t = (t.0 + a * x[j], t.1 + b * x[j]);
+impl Solution {
+    // The columns times the fixed values x, from 0 on.
+    fn columns_times(&self, shape: Shape, x: [f64; 4]) -> (f64, f64)
+        ensures { result ≡ columns_times self.now.columns x shape.p }
+    {
+        let mut t = (0.0, 0.0);
+        for j in 0..shape.p {
+            let (a, b) = self.columns[j];
+            t = (t.0 + a * x[j], t.1 + b * x[j]);
+        }
+        t
     }
-    t
 }
 
 // One group's effects, into its part of the direction.
@@ -140,7 +141,8 @@ fn write_effects(out: &mut [f64], x: f64, y: f64)
     out.copy_from_slice(&[x, y][..n]);
 }
 
-// The direction, from the fixed values x and the groups' solutions; whether each of its components is finite.
+// The direction, from the fixed values x and the groups' solutions; whether each of its components is finite, a flag
+// beside the lent list as solve's in block_solve is, and for its reason.
 #[tactic(auto, using(linalg::specs::laws::Loops::loops, crate::proofs::Laws::parts), unfolding(crate::specs::laws::Steps::component_steps))]
 pub fn write_direction(out: &mut [f64], shape: Shape, x: [f64; 4], solved: &[Solution; 32]) -> bool
     requires { length out.old ≡ shape.p + shape.groups * shape.k }
@@ -153,7 +155,7 @@ pub fn write_direction(out: &mut [f64], shape: Shape, x: [f64; 4], solved: &[Sol
     for g in 0..shape.groups {
         let at = p + g * k;
         let v = solved[g].pair;
-        let t = columns_times(&solved[g].columns, x, p);
+        let t = solved[g].columns_times(shape, x);
         write_effects(&mut out[at..at + k], v.0 - t.0, v.1 - t.1);
     }
     math::all_finite(out)
