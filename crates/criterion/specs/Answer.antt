@@ -2,11 +2,12 @@
 use Rattle.std.specs.Prelude.{ℕ, Bool, cond, Option, Some, None, Result, Ok, Err, List, eqb, Float, length}
 use Rattle.refusal.specs.declared.Refusal.{Refusal}
 use Rattle.refusal.specs.Refusal.{number_of}
+use Rattle.curves.specs.MeanFn.{four_of}
 use Rattle.fit_refusals.specs.Problem.{Problem}
 use Rattle.fit_refusals.specs.Faults.{refusal_of}
 use Rattle.fit.specs.Fit as Fit
 use Rattle.criterion.specs.declared.profile.Profile.{Profile}
-use Rattle.criterion.specs.Profile.{four_of, profile_from}
+use Rattle.criterion.specs.Profile.{profile_from}
 
 -- a call's number, 0 where it is not refused; then the criterion and sigma2; and the two lent lists as they are left
 pub record Told : Type 0 where

@@ -1,10 +1,9 @@
 -- The criterion and sigma2 at what a fit answers (`profile_objective`).
-use Rattle.std.specs.Prelude.{ℕ, Bool, cond, ◌&&◌, List, [], ◌∷◌, eqb, Float, Option, Some, None, get_or, length}
-use Rattle.std.specs.Float.{nan}
+use Rattle.std.specs.Prelude.{ℕ, Bool, cond, List, Float, Option, Some, None, length}
 use Rattle.math.specs.Basic.{add, sub, mul, div, bits, one, max_of}
 use Rattle.math.specs.Ln.{ln_of}
 use Rattle.re_cov.specs.ReCov.{1e-12, log_det_of}
-use Rattle.fit_refusals.specs.Problem.{Problem, p, k}
+use Rattle.fit_refusals.specs.Problem.{Problem, p, k, is_scalar}
 use Rattle.fit_penalized.specs.Penalized.{penalty_sum}
 use Rattle.criterion.specs.declared.profile.Profile.{Profile}
 use Rattle.criterion_groups.specs.Groups.{count_of}
@@ -14,10 +13,6 @@ use Rattle.criterion_agq.specs.Agq.{agq_of}
 -- 2 pi
 abbrev pub two_pi : Float
 two_pi = bits 0x4019_21fb_5444_2d18
-
--- `scalar_ssasymp`: curve 2 with one effect
-unfoldable pub is_scalar : ℕ → ℕ → Bool
-is_scalar code k = eqb k 1 && eqb code 2
 
 -- the degrees of freedom of n readings and p curve values, those of equal bounds too
 unfoldable pub df_of : Bool → ℕ → ℕ → Float
@@ -64,7 +59,3 @@ module _ (q : Problem) (values b : List Float) where
       let sigma2 = sigma2_of scalar rss pen df in
       let c = laplace_of scalar reml (length q.doses) q.groups (k q) (p q) df sigma2 rss pen (det_of scalar) in
       record { criterion = corrected c (agq_of q values b sigma2 nAgq); sigma2 = sigma2 }
-
--- a curve's values in four places, of which those past its last are not read
-abbrev pub four_of : List Float → List Float
-four_of l = get_or l 0 nan ∷ get_or l 1 nan ∷ get_or l 2 nan ∷ get_or l 3 nan ∷ []

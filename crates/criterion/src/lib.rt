@@ -7,26 +7,14 @@ ghost use Rattle.std.specs.Prelude.{◌≡◌, length};
 ghost use Rattle.fit_refusals.specs.Given.{given, checked};
 ghost use Rattle.fit_refusals.specs.Valid.{ValidFit};
 ghost use Rattle.fit.specs.Fit.{answer_of, fit_of};
-ghost use Rattle.criterion.specs.Profile.{four_of};
 ghost use Rattle.criterion.specs.Answer.{told, call_of, profile_of};
 
 use crate::profile::{Profile, profile_objective};
 use criterion_groups::Estimate;
+use curves::mean_fn::four;
 use fit::fit_checked;
 use fit_refusals::{NlmmProblem, Problem};
 use refusal::Refusal;
-
-// A curve's values in four places; those past its last are NaNs, and are not read.
-fn four(values: &[f64]) -> [f64; 4]
-    ensures { result ≡ four_of values.now }
-{
-    [
-        math::at(values, 0),
-        math::at(values, 1),
-        math::at(values, 2),
-        math::at(values, 3),
-    ]
-}
 
 // The lists are written as the fit writes them, and the criterion is worked out from them.
 #[tactic(auto, unfolding(crate::specs::Answer::profile_of, fit::specs::Answer::told))]
@@ -45,7 +33,7 @@ pub fn criterion_checked(
 {
     let fitted = fit_checked(q, max_rounds, values, effects_out);
     let at = Estimate {
-        problem: *q,
+        problem: q,
         values: four(values),
         b: effects_out,
     };

@@ -1,14 +1,12 @@
 // The criterion and sigma2 at what a fit answers (`profile_objective`).
-ghost use Rattle.std.specs.Prelude.{◌≡◌, length};
+ghost use Rattle.std.specs.Prelude.{◌≡◌};
 ghost use Rattle.fit_refusals.specs.Given.{checked};
-ghost use Rattle.criterion.specs.Profile.{is_scalar, df_of, sigma2_of, scalar_of, reml_of, ml_of, laplace_of, det_of, profile_from};
+ghost use Rattle.criterion.specs.Profile.{df_of, sigma2_of, scalar_of, reml_of, ml_of, laplace_of, det_of, profile_from};
 
 use criterion_agq::agq_correction;
 use criterion_groups::Estimate;
 use criterion_logdet::random_effect_logdet;
-use curves::Curve;
 use fit_penalized::penalties;
-use fit_refusals::NlmmProblem;
 use math::ln::ln;
 use re_cov::log_det_sigma;
 use std::num::nearest_usize_to_f64 as count;
@@ -22,14 +20,6 @@ const LEAST: f64 = 1e-12;
 pub struct Profile {
     pub criterion: f64,
     pub sigma2: f64,
-}
-
-// Curve 2 with one effect.
-#[tactic(auto, unfolding(crate::specs::Profile::is_scalar))]
-fn is_scalar(q: &NlmmProblem<'_>) -> bool
-    ensures { result ≡ is_scalar (checked q.now).code (length q.now.effects.now) }
-{
-    q.effects.len() == 1 && q.curve == Curve::Ssasymp
 }
 
 // The degrees of freedom of n readings and p curve values.
@@ -112,10 +102,10 @@ impl Terms {
 // The scalar branch has no gradients in it.
 #[tactic(auto, unfolding(crate::specs::Profile::det_of))]
 fn logdet(at: &Estimate<'_>, scalar: bool) -> f64
-    ensures { result ≡ det_of (checked at.now.problem) at.now.values at.now.b.now scalar }
+    ensures { result ≡ det_of (checked at.now.problem.now) at.now.values at.now.b.now scalar }
 {
     if scalar {
-        let q = &at.problem;
+        let q = at.problem;
         count(q.groups) * log_det_sigma(q.effects.len(), q.theta)
     } else {
         random_effect_logdet(at)
@@ -123,15 +113,17 @@ fn logdet(at: &Estimate<'_>, scalar: bool) -> f64
 }
 
 // The criterion and sigma2 at the curve values and effects that a fit wrote, with its rss. Where the
-// quadrature's correction is none, nothing is added.
+// quadrature's correction is none, nothing is added. Not inlined: its lists would lie on the stack beside
+// the fit's.
 #[tactic(auto, unfolding(crate::specs::Profile::profile_from))]
+#[inline(never)]
 pub fn profile_objective(at: &Estimate<'_>, rss: f64, reml: bool, n_agq: u64) -> Profile
-    ensures { result ≡ profile_from (checked at.now.problem) at.now.values at.now.b.now reml n_agq rss }
+    ensures { result ≡ profile_from (checked at.now.problem.now) at.now.values at.now.b.now reml n_agq rss }
 {
-    let q = &at.problem;
+    let q = at.problem;
     let n = q.doses.len();
     let p = q.curve.n_params();
-    let scalar = is_scalar(q);
+    let scalar = q.is_scalar();
     let pen = penalties(q, at.b);
     let df = degrees(reml, n, p);
     let sigma2 = variance(scalar, rss, pen, df);

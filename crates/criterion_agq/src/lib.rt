@@ -53,10 +53,10 @@ fn scaling(k: usize, curvature: [[f64; 2]; 2]) -> Option<[[f64; 2]; 2]>
     Some([[1.0 / math::sqrt::sqrt(a), 0.0], [0.0, 0.0]])
 }
 
-#[tactic(auto, using(crate::proofs::Laws::squared))]
 fn node_count(k: usize, order: usize) -> usize
     requires { order ≤ 11 }
-    ensures { result ≡ nodes_of k order }
+    ensures same { result ≡ nodes_of k order }
+    ensures few { result ≤ 121 }
 {
     if k == 1 { order } else { order * order }
 }
@@ -99,7 +99,7 @@ fn moved(k: usize, scaling: [[f64; 2]; 2], n: Node, b: &[f64]) -> [f64; 2]
 }
 
 // A node's term.
-#[tactic(auto, using(crate::proofs::Laws::negative_half), unfolding(crate::specs::Agq::term_of))]
+#[tactic(auto, using(crate::specs::laws::Literals::constants), unfolding(crate::specs::Agq::term_of))]
 fn term(sigma2: f64, hat: Misfit, log_w: f64, node: Misfit) -> f64
     ensures { result ≡ term_of sigma2 hat.rss hat.pen log_w node.rss node.pen }
 {
@@ -111,7 +111,7 @@ fn term(sigma2: f64, hat: Misfit, log_w: f64, node: Misfit) -> f64
 // The rule that is taken, of `order` points in each dimension, at an estimate with its sigma2.
 #[derive(Clone, Copy)]
 struct Quadrature<'a> {
-    at: Estimate<'a>,
+    at: &'a Estimate<'a>,
     sigma2: f64,
     order: usize,
     ghost least: { 1 ≤ order },
@@ -120,10 +120,10 @@ struct Quadrature<'a> {
 
 impl Quadrature<'_> {
     fn misfit(&self, group: &Group<'_>) -> Misfit
-        ensures rss { result.rss ≡ group_squares (checked self.now.at.problem) self.now.at.values group.now.b.now group.now.doses.now group.now.grams.now }
-        ensures pen { result.pen ≡ penalty_of (length self.now.at.problem.effects.now) self.now.at.problem.theta.now group.now.b.now }
+        ensures rss { result.rss ≡ group_squares (checked self.now.at.now.problem.now) self.now.at.now.values group.now.b.now group.now.doses.now group.now.grams.now }
+        ensures pen { result.pen ≡ penalty_of (length self.now.at.now.problem.now.effects.now) self.now.at.now.problem.now.theta.now group.now.b.now }
     {
-        let q = &self.at.problem;
+        let q = self.at.problem;
         Misfit {
             rss: self.at.squares(group),
             pen: re_penalty(q.effects.len(), q.theta, group.b),
@@ -131,9 +131,9 @@ impl Quadrature<'_> {
     }
 
     // The terms of a group's nodes.
-    #[tactic(auto, using(crate::proofs::Laws::nodes_few, math::specs::laws::Loops::iter_next), unfolding(crate::specs::Agq::terms_of, math::specs::Loops::iter))]
+    #[tactic(auto, using(math::specs::laws::Loops::iter_next), unfolding(crate::specs::Agq::terms_of, math::specs::Loops::iter))]
     fn terms(&self, group: &Group<'_>, scaling: [[f64; 2]; 2]) -> Filled<NODES>
-        ensures { result ≡ terms_of (checked self.now.at.problem) self.now.at.values self.now.sigma2 self.now.order
+        ensures { result ≡ terms_of (checked self.now.at.now.problem.now) self.now.at.now.values self.now.sigma2 self.now.order
             group.now.doses.now group.now.grams.now group.now.b.now scaling }
     {
         let k = self.at.problem.effects.len();
@@ -153,15 +153,15 @@ impl Quadrature<'_> {
     }
 
     // The sum so far, with a group's; readings that are none add nothing.
-    #[tactic(auto, using(crate::proofs::Laws::negative_two), unfolding(crate::specs::Agq::add_group))]
+    #[tactic(auto, using(crate::specs::laws::Literals::constants), unfolding(crate::specs::Agq::add_group))]
     fn add_group(&self, group: &Group<'_>, total: f64) -> Option<f64>
-        ensures { result ≡ add_group (checked self.now.at.problem) self.now.at.values self.now.sigma2 self.now.order
+        ensures { result ≡ add_group (checked self.now.at.now.problem.now) self.now.at.now.values self.now.sigma2 self.now.order
             group.now.doses.now group.now.grams.now group.now.b.now total }
     {
         if group.doses.is_empty() {
             return Some(total);
         }
-        let q = &self.at.problem;
+        let q = self.at.problem;
         let k = q.effects.len();
         let sigma2 = self.sigma2;
         let inverse = sigma_inv_from_theta(k, q.theta);
@@ -178,10 +178,10 @@ impl Quadrature<'_> {
     // The sum so far, with that of group g.
     #[tactic(auto, using(criterion_groups::specs::laws::Groups::own_as_long), unfolding(crate::specs::Agq::group_at))]
     fn group(&self, g: usize, total: f64) -> Option<f64>
-        requires { g < self.now.at.problem.groups }
-        ensures { result ≡ group_at (checked self.now.at.problem) self.now.at.values self.now.sigma2 self.now.order self.now.at.b.now g total }
+        requires { g < self.now.at.now.problem.now.groups }
+        ensures { result ≡ group_at (checked self.now.at.now.problem.now) self.now.at.now.values self.now.sigma2 self.now.order self.now.at.now.b.now g total }
     {
-        let q = &self.at.problem;
+        let q = self.at.problem;
         let doses = own_readings(q.group, g, q.doses);
         let grams = own_readings(q.group, g, q.grams);
         let group = Group {
@@ -195,7 +195,7 @@ impl Quadrature<'_> {
     // The groups in order, from 0; none where one of them is.
     #[tactic(auto, using(linalg::specs::laws::Loops::loops), unfolding(crate::specs::Agq::groups_of))]
     fn groups(&self) -> Option<f64>
-        ensures { result ≡ groups_of (checked self.now.at.problem) self.now.at.values self.now.sigma2 self.now.order self.now.at.b.now }
+        ensures { result ≡ groups_of (checked self.now.at.now.problem.now) self.now.at.now.values self.now.sigma2 self.now.order self.now.at.now.b.now }
     {
         let mut total = 0.0;
         for g in 0..self.at.problem.groups {
@@ -208,13 +208,9 @@ impl Quadrature<'_> {
 // Where no rule applies, or a group has no scaling or no finite sum, there is none.
 #[tactic(auto, using(crate::proofs::Laws::order_few), unfolding(crate::specs::Agq::agq_of))]
 pub fn agq_correction(at: &Estimate<'_>, sigma2: f64, n_agq: u64) -> Option<f64>
-    ensures { result ≡ agq_of (checked at.now.problem) at.now.values at.now.b.now sigma2 n_agq }
+    ensures { result ≡ agq_of (checked at.now.problem.now) at.now.values at.now.b.now sigma2 n_agq }
 {
     let order = resolve_gh_order_product(n_agq, at.problem.effects.len())?;
-    let rule = Quadrature {
-        at: *at,
-        sigma2,
-        order,
-    };
+    let rule = Quadrature { at, sigma2, order };
     rule.groups()
 }

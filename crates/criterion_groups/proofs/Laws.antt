@@ -1,12 +1,45 @@
--- Assumes nothing.
-use Prim.Native.Nat.{ℕ, ◌+◌, ◌<◌}
-use mathlib.Core.Path.{◌≡◌}
+-- What a loop over two lists side by side makes is what its definition counts up to. Assumes nothing.
+use Prim.Native.Nat.{ℕ, zero, suc, ◌≤◌}
+use mathlib.Core.Path.{◌≡◌, refl, ap, ◌∙◌}
+use mathlib.Core.Bool.{cond}
 use mathlib.Core.List.{List, [], ◌∷◌, ◌++◌}
-use native.Mathlib.Numerals.{add-one}
-use lib.Ieee.{Float}
-use lib.ListN.{length, set, take}
-use lib.Seq.{take-suc-set}
+use native.Mathlib.Omega.{arith}
+use lib.Dec.{eqb}
+use lib.Ieee.{Float, nan}
+use lib.ListN.{length, get_or}
+use Rattle.std.specs.List.{fold, zip}
+use Rattle.math.specs.Basic.{add, sub, mul}
+use Rattle.math.specs.Basic as Basic
+use Rattle.math.specs.Loops.{iter}
+use Rattle.fit_refusals.specs.Problem.{Problem}
+use Rattle.criterion_groups.specs.Groups.{own_of, curve_at, group_squares}
 
--- a number written at the next free place
-pub more_taken : (list : List Float) (n : ℕ) (v : Float) → n < length list → take (n + 1) (set list n v) ≡ take n list ++ (v ∷ [])
-more_taken list n v p = rw (add-one n) (take-suc-set list n v p)
+-- the first turn, and those after it
+iter_front : {S : Type 0} (f : ℕ → S → S) (n : ℕ) (s : S) → iter f (suc n) s ≡ iter (λ i. f (suc i)) n (f 0 s)
+unfolding iter
+iter_front f zero s = refl
+iter_front f (suc n) s = ap (f (suc n)) (iter_front f n s)
+
+iter_zip : {A B S : Type 0} (f : A → B → S → S) (d : A) (e : B) (xs : List A) (ys : List B) (s : S) → length xs ≤ length ys
+    → iter (λ i s. f (get_or xs i d) (get_or ys i e) s) (length xs) s ≡ fold (λ s p. f p.0 p.1 s) s (zip xs ys)
+unfolding iter
+iter_zip f d e [] ys s p = refl
+iter_zip f d e (x ∷ xs) [] s p = absurd (omega arith)
+iter_zip f d e (x ∷ xs) (y ∷ ys) s p = iter_front (λ i s. f (get_or (x ∷ xs) i d) (get_or (y ∷ ys) i e) s) (length xs) s ∙ iter_zip f d e xs ys (f x y s) (omega arith)
+
+-- a reading, h its group
+abbrev pub own_next : ℕ → List Float → ℕ × Float → List Float
+own_next g own p = cond (eqb p.0 g) (own ++ (p.1 ∷ [])) own
+
+pub own_zip : (group : List ℕ) (g : ℕ) (list : List Float) → length group ≤ length list → own_of group g list ≡ fold (own_next g) [] (zip group list)
+unfolding own_of
+own_zip group g list p = iter_zip (λ h x own. own_next g own (h, x)) 0 nan group list [] p
+
+-- a reading, its dose and its grams
+abbrev pub square_next : Problem → List Float → List Float → Float → Float × Float → Float
+square_next q values b t p = let r = sub p.1 (curve_at q values b p.0).mu in add t (mul r r)
+
+pub squares_zip : (q : Problem) (values b doses grams : List Float) → length doses ≤ length grams
+    → group_squares q values b doses grams ≡ fold (square_next q values b) Basic.zero (zip doses grams)
+unfolding group_squares
+squares_zip q values b doses grams p = iter_zip (λ x y t. square_next q values b t (x, y)) nan nan doses grams Basic.zero p

@@ -9,7 +9,7 @@ ghost use Rattle.criterion_groups.specs.Groups.{own_of, group_squares, block_by}
 
 use curves::mean_fn::effective;
 use fit_penalized::normal::random_gradients;
-use fit_refusals::NlmmProblem;
+use fit_refusals::{MAX_READINGS, NlmmProblem};
 use std::marker::Model;
 
 // The numbers so far of a list with N places.
@@ -37,7 +37,6 @@ impl<const N: usize> Filled<N> {
         }
     }
 
-    #[tactic(auto, using(crate::proofs::Laws::more_taken))]
     pub fn push(&mut self, x: f64)
         requires { length self.old < N }
         ensures { self.new ≡ self.old ++ x ∷ [] }
@@ -53,20 +52,17 @@ impl<const N: usize> Filled<N> {
     }
 }
 
-// The most readings that there are.
-const READINGS: usize = 512;
-
 // What a list has at the readings of group g, in their order.
-#[tactic(auto, using(math::specs::laws::Loops::iter_next), unfolding(crate::specs::Groups::own_of, math::specs::Loops::iter))]
-pub fn own_readings(group: &[usize], g: usize, list: &[f64]) -> Filled<READINGS>
+#[tactic(auto, using(crate::proofs::Laws::own_zip))]
+pub fn own_readings(group: &[usize], g: usize, list: &[f64]) -> Filled<MAX_READINGS>
     requires many { length group.now ≤ 512 }
     requires each { length group.now ≤ length list.now }
     ensures { result ≡ own_of group.now g list.now }
 {
     let mut own = Filled::new();
-    for (i, h) in group.iter().enumerate() {
-        if *h == g {
-            own.push(list[i]);
+    for (&h, &x) in group.iter().zip(list) {
+        if h == g {
+            own.push(x);
         }
     }
     own
@@ -75,10 +71,10 @@ pub fn own_readings(group: &[usize], g: usize, list: &[f64]) -> Filled<READINGS>
 // A problem's curve values and its effects b, group after group, as a fit leaves them.
 #[derive(Clone, Copy)]
 pub struct Estimate<'a> {
-    pub problem: NlmmProblem<'a>,
+    pub problem: &'a NlmmProblem<'a>,
     pub values: [f64; 4],
     pub b: &'a [f64],
-    pub ghost places: { length b.now ≡ problem.groups * length problem.effects.now },
+    pub ghost places: { length b.now ≡ problem.now.groups * length problem.now.effects.now },
 }
 
 // A group's own readings, and its effects.
@@ -93,23 +89,23 @@ pub struct Group<'a> {
 impl Estimate<'_> {
     // The effects of group g.
     pub fn effects(&self, g: usize) -> &[f64]
-        requires { g < self.now.problem.groups }
-        ensures { result.now ≡ part (g * length self.now.problem.effects.now) (length self.now.problem.effects.now) self.now.b.now }
+        requires { g < self.now.problem.now.groups }
+        ensures { result.now ≡ part (g * length self.now.problem.now.effects.now) (length self.now.problem.now.effects.now) self.now.b.now }
     {
         let k = self.problem.effects.len();
         &self.b[g * k..g * k + k]
     }
 
     // The rss of a group's readings at its effects.
-    #[tactic(auto, using(math::specs::laws::Loops::turns), unfolding(crate::specs::Groups::group_squares, curves::specs::MeanFn::eval_with_re_of))]
+    #[tactic(auto, using(crate::proofs::Laws::squares_zip), unfolding(curves::specs::MeanFn::eval_with_re_of))]
     pub fn squares(&self, group: &Group<'_>) -> f64
-        ensures { result ≡ group_squares (checked self.now.problem) self.now.values group.now.b.now group.now.doses.now group.now.grams.now }
+        ensures { result ≡ group_squares (checked self.now.problem.now) self.now.values group.now.b.now group.now.doses.now group.now.grams.now }
     {
-        let q = &self.problem;
+        let q = self.problem;
         let values = effective(self.values, q.effects, group.b);
         let mut sum = 0.0;
-        for (i, x) in group.doses.iter().enumerate() {
-            let r = group.grams[i] - q.curve.eval(*x, values).mu;
+        for (&dose, &gram) in group.doses.iter().zip(group.grams) {
+            let r = gram - q.curve.eval(dose, values).mu;
             sum += r * r;
         }
         sum
@@ -125,9 +121,9 @@ impl Estimate<'_> {
         each: F,
     ) -> [[f64; 2]; 2]
         requires { F.IsAlwaysCallable each }
-        ensures { (f : Float → Float) → ((x y : Float) → F.post each x y → y ≡ f x) → result ≡ block_by f (checked self.now.problem) self.now.values b.now doses.now m }
+        ensures { (f : Float → Float) → ((x y : Float) → F.post each x y → y ≡ f x) → result ≡ block_by f (checked self.now.problem.now) self.now.values b.now doses.now m }
     {
-        let q = &self.problem;
+        let q = self.problem;
         let values = effective(self.values, q.effects, b);
         let mut sum = m;
         for x in doses {

@@ -17,6 +17,7 @@ fn diagonal_logs(k: usize, factor: [[f64; 2]; 2]) -> f64
     ensures { result ≡ logs_of k factor }
 {
     let first = 0.0 + ln(factor[0][0]);
+    // k is a count, and no kind: one effect or two.
     if k == 1 {
         first
     } else {
@@ -27,8 +28,8 @@ fn diagonal_logs(k: usize, factor: [[f64; 2]; 2]) -> f64
 // The factor of group g's block: the covariance's inverse, then the group's own readings in order.
 #[tactic(auto, unfolding(crate::specs::LogDet::group_factor))]
 fn group_factor(at: &Estimate<'_>, g: usize) -> Option<[[f64; 2]; 2]>
-    requires { g < at.now.problem.groups }
-    ensures { result ≡ group_factor (checked at.now.problem) at.now.values at.now.b.now g }
+    requires { g < at.now.problem.now.groups }
+    ensures { result ≡ group_factor (checked at.now.problem.now) at.now.values at.now.b.now g }
 {
     let q = at.problem;
     let k = q.effects.len();
@@ -41,7 +42,7 @@ fn group_factor(at: &Estimate<'_>, g: usize) -> Option<[[f64; 2]; 2]>
 // Every group counts, one without readings too; +infinity where a factor is none.
 #[tactic(auto, using(linalg::specs::laws::Loops::loops), unfolding(crate::specs::LogDet::logdet_of))]
 pub fn random_effect_logdet(at: &Estimate<'_>) -> f64
-    ensures { result ≡ logdet_of (checked at.now.problem) at.now.values at.now.b.now }
+    ensures { result ≡ logdet_of (checked at.now.problem.now) at.now.values at.now.b.now }
 {
     let q = at.problem;
     let k = q.effects.len();

@@ -4,3 +4,4 @@ mod Table
 mod Points
 pub mod Demand3
 mod Loop
+mod Room

@@ -1,8 +1,8 @@
 -- A rounded fraction is within one step of any grid 2 ^ j (in units of the format's smallest value) whose points around it the format holds.
 -- Only `round_mono` and `round_exact` are used: the grid's points below and above the fraction are values of the format. Assumes nothing.
-use mathlib.Core.Path.{◌≡◌, refl, ap, ◌∙◌}
+use mathlib.Core.Path.{◌≡◌, refl}
 use Prim.Native.Nat.{ℕ, suc, ◌+◌, ◌*◌, ◌/◌, ◌^◌, ◌≤◌, ◌<◌}
-use native.Mathlib.Nat.{le_trans, le_of_eq, le_of_lt, lt_of_lt_of_le, mul_comm, mul_assoc, mul_left_comm, mul-le-mul_right, le_of_mul-le-mul_right, mul-pos, div-mul-le_self, le-div_iff_mul-le, div-lt_iff_lt-mul, one-mul, add-mul}
+use native.Mathlib.Nat.{le_trans, le_of_eq, le_of_lt, lt_of_lt_of_le, mul_comm, mul_assoc, mul_left_comm, mul-le-mul_right, le_of_mul-le-mul_right, mul-pos, div-mul-le_self, le-div_iff_mul-le, div-lt_iff_lt-mul, one-mul, suc-mul, lt-suc_self}
 use native.Mathlib.Omega.{arith}
 use mathlib.Core.Bool.{false}
 use lib.Dec.{T}
@@ -32,14 +32,8 @@ close : (g u k x v : ℕ) → g * (k * u) ≤ x → x ≤ suc g * (k * u) → g 
 close g u k x v a b c d =
     let p : g * (k * u) ≤ v * k = le_trans (le_of_eq (simp (mul_assoc, mul_comm))) (mul-le-mul_right k c) in
     let q : v * k ≤ suc g * (k * u) = le_trans (mul-le-mul_right k d) (le_of_eq (simp (mul_assoc, mul_comm, mul_left_comm))) in
-    let s : suc g * (k * u) ≡ g * (k * u) + k * u = split_suc g (k * u) in
+    let s : suc g * (k * u) ≡ g * (k * u) + k * u = suc-mul g (k * u) in
     (omega arith, omega arith)
-  where
-    split_suc : (g m : ℕ) → suc g * m ≡ g * m + m
-    split_suc g m = ap (λ (z : ℕ). z * m) (one g) ∙ add-mul g 1 m ∙ ap (λ (z : ℕ). g * m + z) (one-mul m)
-      where
-        one : (g : ℕ) → suc g ≡ g + 1
-        one g = omega arith
 
 pub near : (f : Format) (j x k : ℕ) → 0 < k → k * 2 ^ j ≤ x → suc (x / (k * 2 ^ j)) < 2 ^ prec f → prec f + j ≤ low f + suc (emax f) → Near f (round f false x (2 ^ low f * k)) x k (2 ^ j)
 near f j x k K lo hi R =
@@ -49,15 +43,15 @@ near f j x k K lo hi R =
     let ku : 0 < k * u = mul-pos K (pow_pos j) in
     let g = x / (k * u) in
     let a : g * (k * u) ≤ x = div-mul-le_self x (k * u) in
-    let b : x ≤ suc g * (k * u) = le_of_lt ((div-lt_iff_lt-mul ku).0 (self g)) in
+    let b : x ≤ suc g * (k * u) = le_of_lt ((div-lt_iff_lt-mul ku).0 (lt-suc_self g)) in
     let below = round f false (g * u) w in
     let above = round f false (suc g * u) w in
     let r = round f false x (w * k) in
     let g1 : 1 ≤ g = (le-div_iff_mul-le ku).1 (le_trans (le_of_eq (one-mul (k * u))) lo) in
-    let vb : HasValue below false (g * u) w = at_grid f j g (lt_of_lt_of_le (self g) (le_of_lt hi)) R in
+    let vb : HasValue below false (g * u) w = at_grid f j g (lt_of_lt_of_le (lt-suc_self g) (le_of_lt hi)) R in
     let va : HasValue above false (suc g * u) w = at_grid f j (suc g) hi R in
     let pb : T (positive below) = positive_of_value below (g * u) w vb (mul-pos g1 (pow_pos j)) in
-    let pa : T (positive above) = positive_of_value above (suc g * u) w va (mul-pos (le_trans g1 (le_of_lt (self g))) (pow_pos j)) in
+    let pa : T (positive above) = positive_of_value above (suc g * u) w va (mul-pos (le_trans g1 (le_of_lt (lt-suc_self g))) (pow_pos j)) in
     let lb : T (le below r) = round_mono f (g * u) w x (w * k) W (mul-pos W K) (cross_lo g u w k x a) in
     let la : T (le r above) = round_mono f x (w * k) (suc g * u) w (mul-pos W K) W (cross_hi (suc g) u w k x b) in
     let pr : T (positive r) = between below r above pb pa lb la in
@@ -67,6 +61,3 @@ near f j x k K lo hi R =
     let d : v ≤ suc g * u = le_of_mul-le-mul_right (values_of_le r above v w (suc g * u) w pr pa vr va la) W in
     let e = close g u k x v a b c d in
     (v, vr, e.0, e.1)
-  where
-    self : (n : ℕ) → n < suc n
-    self n = omega arith

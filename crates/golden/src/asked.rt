@@ -10,22 +10,23 @@ use fit_refusals::NlmmProblem;
 // A search's problem, without theta, and what its fits and criteria are given.
 #[derive(Clone, Copy)]
 pub struct Asked<'a> {
-    pub problem: NlmmProblem<'a>,
+    pub problem: &'a NlmmProblem<'a>,
     pub max_rounds: u64,
     pub reml: bool,
     pub n_agq: u64,
-    pub ghost fits: { AlwaysFits (checked problem) max_rounds },
+    pub ghost fits: { AlwaysFits (checked problem.now) max_rounds },
 }
 
 impl Asked<'_> {
     // At theta t, from the given start; the curve values and the effects are not kept.
-    #[tactic(auto, using(fit_step::specs::laws::Sized::params_most), unfolding(crate::specs::Search::criterion_at))]
+    #[tactic(auto, using(fit_step::specs::laws::Sized::params_most, fit_step::specs::laws::Sized::all_fit, crate::proofs::Room::room), unfolding(crate::specs::Search::criterion_at))]
     pub fn criterion(&self, t: f64) -> f64
         requires { is_finite t ≡ true }
-        ensures { result ≡ criterion_at (checked self.now.problem) self.now.max_rounds self.now.reml self.now.n_agq t }
+        ensures { result ≡ criterion_at (checked self.now.problem.now) self.now.max_rounds self.now.reml self.now.n_agq t }
     {
-        let q = &self.problem;
+        let q = self.problem;
         let theta = [t];
+        // Field by field: a struct with a ghost field takes no `..base`.
         let problem = NlmmProblem {
             curve: q.curve,
             doses: q.doses,

@@ -137,6 +137,7 @@ impl Bracket {
 
 // The search, whatever the criterion answers: two fits at the first inner points, one after each narrowing,
 // one at theta.
+#[tactic(auto, using(crate::proofs::Loop::left_finite, crate::proofs::Loop::right_finite))]
 fn optimize_theta_golden<F: Fn(f64) -> f64>(criterion: F, allowed: u64) -> Found
     requires { (t : Float) → is_finite t ≡ true → F.pre criterion t }
     ensures demand3 { Demand3 allowed result }
@@ -156,6 +157,7 @@ fn optimize_theta_golden<F: Fn(f64) -> f64>(criterion: F, allowed: u64) -> Found
     };
     let mut narrowings = 0u64;
     let mut fits = 2u64;
+    // A `while`: how many narrowings were made is an answer, and the bracket may be narrow before any.
     while s.is_wide() && narrowings < allowed {
         let t = s.new_point();
         s = s.narrowed(t, criterion(t));
@@ -186,7 +188,7 @@ pub fn search(
 {
     let problem = problem.for_search(max_rounds, max_narrowings)?;
     let asked = Asked {
-        problem,
+        problem: &problem,
         max_rounds,
         reml,
         n_agq,

@@ -14,7 +14,7 @@ use Rattle.block_solve.specs.laws.Computes.{direction_computes}
 use Rattle.quadrature.specs.Orders.{order_of, capped, capped_order}
 use Rattle.quadrature.specs.Rules as Rules
 use Rattle.quadrature.specs.Sums.{log_sum_exp}
-use Rattle.fit_refusals.specs.Problem.{Problem, problem_of}
+use Rattle.fit_refusals.specs.Problem.{Problem, problem_of, is_scalar}
 use Rattle.fit_penalized.specs.Normal.{random_gradients}
 use Rattle.fit_step.specs.laws.Rows.{state_computes}
 use Rattle.fit_penalized.specs.Penalized.{rss_of, penalty_sum}
@@ -23,7 +23,7 @@ use Rattle.criterion_groups.specs.Groups.{own_of, gradients_at, group_squares, a
 use Rattle.linalg.specs.Loops.{tries}
 use Rattle.criterion_logdet.specs.LogDet.{logs_of, group_factor, logdet_of}
 use Rattle.criterion_agq.specs.Agq.{scaling_of, node_of, moved_of, term_of, terms_of, add_group, group_at, groups_of, agq_of}
-use Rattle.criterion.specs.Profile.{is_scalar, df_of, sigma2_of, laplace_of, det_of, profile_from}
+use Rattle.criterion.specs.Profile.{df_of, sigma2_of, laplace_of, det_of, profile_from}
 use Rattle.criterion.specs.Answer.{profile_of}
 
 -- a problem without bounds, at its start: no round is allowed

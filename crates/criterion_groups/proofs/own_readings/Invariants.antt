@@ -1,10 +1,16 @@
-use mathlib.Core.Path.{◌≡◌}
-use Prim.Native.Nat.{◌≤◌}
-use Rattle.math.specs.Loops.{iter}
-use lib.ListN.{length}
-use mathlib.Core.List.{[]}
-use Rattle.criterion_groups.specs.Groups.{own_at}
+-- The readings that are left bring the own ones so far to all of them.
+use Rattle.std.proofs.Common.{◌≡◌, ◌+◌, ◌≤◌, length}
+use Rattle.std.specs.List.{fold, zip}
+use Rattle.criterion_groups.specs.Groups.{own_of}
+use Rattle.criterion_groups.proofs.Laws.{own_next}
 use Rattle.criterion_groups.proofs.own_readings.Given as goal
 
-abbrev pub invariant-loop-i : goal.invariant-loop-i
-invariant-loop-i l = (length l.own ≤ l.i) × (l.own ≡ iter (own_at l.group l.g l.list) l.i [])
+abbrev pub invariant-loop-h : goal.invariant-loop-h
+invariant-loop-h l =
+    let group = l.h-iterator.a.rest.now in
+    let list = l.h-iterator.b.rest.now in
+    record {
+      each : length group ≤ length list;
+      fits : length l.own + length group ≤ 512;
+      so_far : fold (own_next l.g) l.own (zip group list) ≡ own_of l.group l.g l.list;
+    }

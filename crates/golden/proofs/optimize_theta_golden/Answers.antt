@@ -3,15 +3,9 @@ use mathlib.Core.Path.{◌≡◌, sym, ◌∙◌}
 use Prim.Native.Nat.{min}
 use mathlib.Core.Logic.{inl, inr}
 use native.Mathlib.Omega.{arith}
-use Rattle.golden.proofs.Loop.{left_finite, right_finite, begins, new_finite, last_finite, goes, counts, ends}
+use Rattle.golden.proofs.Loop.{begins, new_finite, last_finite, goes, counts, ends}
 use Rattle.golden.proofs.optimize_theta_golden.Goals as goal
 use Rattle.golden.proofs.optimize_theta_golden.Goals.{then-loop-t-test+else-narrowings-allowed, else-loop-t-test}
-
-pub criterion-requires : goal.criterion-requires
-criterion-requires g c = c.requires _ (left_finite _ c.left_point-c.ensures)
-
-pub criterion-requires-2 : goal.criterion-requires-2
-criterion-requires-2 g c = c.requires _ (right_finite _ c.right_point-d.ensures)
 
 pub loop-t-init : goal.loop-t-init
 loop-t-init g c = begins _ _ _ _ _ _ c.left_point-c.ensures c.right_point-d.ensures c.criterion.ensures c.criterion-2.ensures

@@ -6,4 +6,4 @@ use Rattle.criterion_agq.specs.Agq.{group_at}
 use Rattle.criterion_agq.proofs.Quadrature.groups.Given as goal
 
 abbrev pub invariant-loop-g : goal.invariant-loop-g
-invariant-loop-g l = Some l.total ≡ tries (group_at (checked l.self.at.problem) l.self.at.values l.self.sigma2 l.self.order l.self.at.b.now) l.g zero
+invariant-loop-g l = Some l.total ≡ tries (group_at (checked l.self.at.now.problem.now) l.self.at.now.values l.self.sigma2 l.self.order l.self.at.now.b.now) l.g zero

@@ -7,4 +7,4 @@ use Rattle.criterion_groups.proofs.Estimate.block.Given as goal
 
 abbrev pub invariant-loop-x : goal.invariant-loop-x
 invariant-loop-x g l =
-    (f : Float → Float) → ((x y : Float) → goal.F-post g l.each x y → y ≡ f x) → l.sum ≡ iter (block_at f (checked l.self.problem) l.self.values l.b l.doses) l.x-index l.fn.m
+    (f : Float → Float) → ((x y : Float) → goal.F-post g l.each x y → y ≡ f x) → l.sum ≡ iter (block_at f (checked l.self.problem.now) l.self.values l.b l.doses) l.x-index l.fn.m
