@@ -48,7 +48,11 @@ const SHAPES: [&[u8]; 5] = [
 fn path(out: &mut Text<'_>, g: usize)
     ensures { out.new ≡ wrote out.old (path_text g) }
 {
-    word(out, &SHAPES, (g % COLOURS.len() + g / COLOURS.len() * 4) % SHAPES.len());
+    word(
+        out,
+        &SHAPES,
+        (g % COLOURS.len() + g / COLOURS.len() * 4) % SHAPES.len(),
+    );
 }
 
 // What follows a path's first point.
