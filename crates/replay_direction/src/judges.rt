@@ -2,7 +2,6 @@
 use crate::matrices::{Shape, read_matrices};
 use block_solve::normal::BlockNormal;
 use linalg::elimination::{System, solve};
-use linalg::pair::{cholesky, inverse};
 use replay_cases::same::same_floats;
 use replay_cases::words::Words;
 
@@ -58,14 +57,15 @@ fn entries_of(m: [[f64; 2]; 2]) -> [f64; 4] {
     [m[0][0], m[0][1], m[1][0], m[1][1]]
 }
 
-pub fn judge_inverse(words: &mut Words<'_>) -> Option<bool> {
+// What `of` makes of a matrix.
+pub fn judge_pair<F: Fn(usize, [[f64; 2]; 2]) -> Option<[[f64; 2]; 2]>>(
+    words: &mut Words<'_>,
+    of: F,
+) -> Option<bool>
+    requires { F.IsAlwaysCallable of }
+{
     let m = read_pair(words)?;
-    agrees(words, 4, inverse(2, m).map(entries_of))
-}
-
-pub fn judge_cholesky(words: &mut Words<'_>) -> Option<bool> {
-    let m = read_pair(words)?;
-    agrees(words, 4, cholesky(2, m).map(entries_of))
+    agrees(words, 4, of(2, m).map(entries_of))
 }
 
 // A direction's blocks, for p curve values, k effects and groups groups.
