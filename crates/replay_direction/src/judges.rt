@@ -15,7 +15,7 @@ fn agrees<const N: usize>(words: &mut Words<'_>, n: usize, is: Option<[f64; N]>)
     match words.value::<u64>()? {
         0 => Some(is.is_none()),
         1 => {
-            let len = words.list(&mut stored)?.len();
+            let len = words.list_into(&mut stored)?;
             Some(len == n && is.is_some_and(|x| same_floats(&x, &stored)))
         }
         _ => None,
@@ -37,7 +37,7 @@ pub fn judge_solve(words: &mut Words<'_>) -> Option<bool> {
     let mut a = [0.0; 16];
     let mut b = [0.0; 4];
     read_matrices(words, shape, &mut a)?;
-    if words.list(&mut b)?.len() != n {
+    if words.list_into(&mut b)? != n {
         return None;
     }
     agrees(words, n, solve(System { a, b }, n))
@@ -46,7 +46,7 @@ pub fn judge_solve(words: &mut Words<'_>) -> Option<bool> {
 // A matrix of two rows and columns.
 fn read_pair(words: &mut Words<'_>) -> Option<[[f64; 2]; 2]> {
     let mut entries = [0.0; 4];
-    if words.list(&mut entries)?.len() != 4 {
+    if words.list_into(&mut entries)? != 4 {
         return None;
     }
     let [a, b, c, d] = entries;
