@@ -2,3 +2,4 @@ pub mod Numbers
 pub mod Elements
 pub mod Saying
 pub mod Equality
+pub mod Counts

@@ -3,3 +3,4 @@ pub mod Lent
 pub mod Digits
 pub mod Words
 pub mod Tally
+pub mod Counts

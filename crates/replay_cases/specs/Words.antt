@@ -1,5 +1,5 @@
 -- The words of a line, one after the other.
-use Rattle.std.specs.Prelude.{ℕ, zero, suc, ◌+◌, ◌==◌, Bool, cond, List, [], ◌∷◌, eqb, leb, length, take, drop, Option, Some, None, option_map, option_and_then}
+use Rattle.std.specs.Prelude.{ℕ, zero, suc, ◌+◌, ◌==◌, Bool, cond, unwrap_or, List, [], ◌∷◌, eqb, leb, length, take, drop, Option, Some, None, option_map, option_and_then}
 use Rattle.std.specs.List.{position}
 use Rattle.math.specs.Lists.{same_lists}
 use Rattle.replay_cases.specs.Digits.{decimal_of}
@@ -37,6 +37,10 @@ elements value (suc n) left =
 unfoldable pub list_of : {A : Type 0} → (List ℕ → Option A) → ℕ → Option (List ℕ) → Option (List A)
 list_of value room left =
     option_and_then (λ n. cond (leb n room) (elements value n (after_word left)) None) (option_and_then decimal_of (word_of left))
+
+-- how many places a list takes, of `room`; a fault in its length takes none
+abbrev pub places : ℕ → Option (List ℕ) → ℕ
+places room left = unwrap_or (option_map (λ n. cond (leb n room) n 0) (option_and_then decimal_of (word_of left))) 0
 
 -- whether the next words say these values
 abbrev pub said : {A : Type 0} → (List ℕ → Option A) → (A → A → Bool) → List A → Option (List ℕ) → Option Bool

@@ -46,7 +46,7 @@ impl<B: BufRead> Lines<B> {
         }
     }
 
-    // The next line, without its end.
+    // The next line, without its end. A line that memory has no room for counts as unread.
     fn read_line(&mut self) -> Result<Option<Vec<u8>>, Fault> {
         if self.place == Place::LongLine {
             self.input.skip_until(b'\n')?;

@@ -6,14 +6,14 @@ ghost use Rattle.replay_cases.specs.Same.{same_bits};
 
 use math::words::bits_of;
 
-// Whether a and b have the same bits; all NaNs count as one value.
+// Whether a and b have the same bits; all NaNs count as one value. No derive says that, nor `==` of floats.
 pub fn same_float(a: f64, b: f64) -> bool
     ensures { result ≡ same_bits a b }
 {
     bits_of(a) == bits_of(b)
 }
 
-// Whether the pairs have the same bits, as far as both lists go.
+// Whether the pairs have the same bits, as far as both lists go. Apart: inlined, or by `Iterator::eq`, the proof didn't close.
 fn same_pairs(a: &[f64], b: &[f64]) -> bool
     ensures { result ≡ list_all (λ p. same_bits p.0 p.1) (zip a.now b.now) }
 {

@@ -1,5 +1,5 @@
 // What a replay counts and prints.
-ghost use Rattle.std.specs.Prelude.{◌≡◌, ◌+◌, ◌≤◌, min, if◌then◌else◌, Some, None, IfOk, length, vec_len};
+ghost use Rattle.std.specs.Prelude.{◌≡◌, ◌≤◌, if◌then◌else◌, map, replicate, Some, None, IfOk, length, vec_len};
 ghost use Rattle.std.specs.Option.{option_or};
 ghost use Rattle.replay_cases.specs.Tally.{verdict_of};
 
@@ -14,7 +14,8 @@ pub enum Verdict {
     Malformed,
 }
 
-// Of a line of operation `op`, by whether the answers agree, which a malformed line does not say.
+// Of a line of operation `op`, by whether the answers agree, which a malformed line does not say. `op` is a place and no
+// kind: which operations there are, each program says.
 pub fn verdict_of(op: usize, agrees: Option<bool>) -> Verdict
     ensures { result ≡ verdict_of op agrees }
 {
@@ -36,10 +37,11 @@ pub struct Operation {
 }
 
 impl Operation {
+    ghost use Rattle.replay_cases.specs.Counts.{counts_of, no_lines, agreed, differed};
+
     pub fn new(name: &'static str) -> Self
-        ensures lines { result.lines ≡ 0 }
-        ensures agree { result.agree ≡ 0 }
-        ensures first { result.first_differs ≡ None }
+        ensures name { result.name ≡ name.entry }
+        ensures counts { counts_of result ≡ no_lines }
     {
         Operation {
             name,
@@ -51,9 +53,8 @@ impl Operation {
 
     // Line `number` is one of this operation.
     fn count(&mut self, number: u64, agrees: bool)
-        ensures lines { self.new.lines ≡ min (self.old.lines + 1) u64.MAX }
-        ensures agree { self.new.agree ≡ (if agrees then min (self.old.agree + 1) u64.MAX else self.old.agree) }
-        ensures first { self.new.first_differs ≡ (if agrees then self.old.first_differs else option_or self.old.first_differs (Some number)) }
+        ensures name { self.new.name ≡ self.old.name }
+        ensures counts { counts_of self.new ≡ (if agrees then agreed (counts_of self.old) else differed number (counts_of self.old)) }
     {
         self.lines = self.lines.saturating_add(1);
         if agrees {
@@ -85,8 +86,11 @@ pub struct Tally {
 }
 
 impl Tally {
+    ghost use Rattle.replay_cases.specs.Counts.{counts_of, no_lines, more, counted, is_malformed};
+
     pub fn new(alloc: Global, names: &[&'static str]) -> Result<Self, AllocError>
-        ensures operations { IfOk result (λ t. vec_len t.operations ≡ length names.now) }
+        ensures names { IfOk result (λ t. map (λ o. o.name) t.operations.items ≡ names.now) }
+        ensures counts { IfOk result (λ t. map counts_of t.operations.items ≡ replicate (length names.now) no_lines) }
         ensures malformed { IfOk result (λ t. t.malformed ≡ 0) }
         ensures first { IfOk result (λ t. t.first_malformed ≡ None) }
         ensures unread { IfOk result (λ t. t.unread ≡ 0) }
@@ -104,8 +108,12 @@ impl Tally {
     }
 
     // The line of this number, counted.
+    #[tactic(auto, using(crate::proofs::Counts::counting))]
     pub fn count(&mut self, number: u64, verdict: Verdict)
-        ensures operations { vec_len self.new.operations ≡ vec_len self.old.operations }
+        ensures names { map (λ o. o.name) self.new.operations.items ≡ map (λ o. o.name) self.old.operations.items }
+        ensures counts { map counts_of self.new.operations.items ≡ counted number verdict (map counts_of self.old.operations.items) }
+        ensures malformed { self.new.malformed ≡ (if is_malformed (vec_len self.old.operations) verdict then more self.old.malformed else self.old.malformed) }
+        ensures first { self.new.first_malformed ≡ (if is_malformed (vec_len self.old.operations) verdict then option_or self.old.first_malformed (Some number) else self.old.first_malformed) }
         ensures unread { self.new.unread ≡ self.old.unread }
     {
         match verdict {
@@ -126,7 +134,7 @@ impl Tally {
         ensures operations { self.new.operations ≡ self.old.operations }
         ensures malformed { self.new.malformed ≡ self.old.malformed }
         ensures first { self.new.first_malformed ≡ self.old.first_malformed }
-        ensures unread { self.new.unread ≡ min (self.old.unread + 1) u64.MAX }
+        ensures unread { self.new.unread ≡ more self.old.unread }
     {
         self.unread = self.unread.saturating_add(1);
     }

@@ -1,8 +1,8 @@
 // The words of a line, read one after the other. `None` is a fault; a caller reads all that a line
 // should hold with `?`, and asks for its end last.
-ghost use Rattle.std.specs.Prelude.{◌≡◌, ℕ, Bool, nat_eq, List, Option, ◌+◌, ◌≤◌, ◌↔◌, ◌==◌, Some, None, IsSome, IfSome, OnSome, length, option_map, option_and_then};
+ghost use Rattle.std.specs.Prelude.{◌≡◌, ℕ, Bool, nat_eq, List, Option, ◌+◌, ◌≤◌, ◌↔◌, ◌==◌, Some, None, IsSome, IfSome, OnSome, length, take, drop, option_map, option_and_then};
 ghost use Rattle.std.specs.List.{position};
-ghost use Rattle.replay_cases.specs.Words.{elements, cut, word_of, after_word, after_words, list_of, said, said_list};
+ghost use Rattle.replay_cases.specs.Words.{elements, cut, word_of, after_word, after_words, list_of, places, said, said_list};
 ghost use Rattle.replay_cases.specs.Digits.{decimal_of, float_of};
 ghost use Rattle.replay_cases.specs.Same.{same_bits};
 
@@ -145,19 +145,30 @@ impl<'a> Words<'a> {
         Some(())
     }
 
-    // A list: its length, which must be at most that of `out`, and its elements, put at the start of `out`.
+    // A list: its length, which must be at most that of `out`, and its elements, put at the start of `out`. Answers how many
+    // there are.
     #[tactic(auto, using(crate::proofs::Elements::after_one_more), unfolding(crate::specs::Words::list_of))]
-    pub fn list<'b, T: Value>(&mut self, out: &'b mut [T]) -> Option<&'b [T]>
-        ensures value { option_map (λ l. l.now) result ≡ list_of T.value_of (length out.old) self.old }
-        ensures rest { IfSome result (λ l. self.new ≡ after_words (length l.now + 1) self.old) }
+    pub fn list_into<T: Value>(&mut self, out: &mut [T]) -> Option<usize>
+        ensures value { option_map (λ n. take n out.new) result ≡ list_of T.value_of (length out.old) self.old }
+        ensures bound { IfSome result (λ n. n ≤ length out.new) }
+        ensures behind { drop (places (length out.old) self.old) out.new ≡ drop (places (length out.old) self.old) out.old }
+        ensures rest { IfSome result (λ n. self.new ≡ after_words (n + 1) self.old) }
     {
         let len = self.value::<usize>()?;
         if len > out.len() {
             return None;
         }
-        let list = &mut out[..len];
-        self.values(list)?;
-        Some(list)
+        self.values(&mut out[..len])?;
+        Some(len)
+    }
+
+    // The same, and answers the list itself. What `out` has behind it, `list_into` says: here `out` is still lent.
+    pub fn list<'b, T: Value>(&mut self, out: &'b mut [T]) -> Option<&'b [T]>
+        ensures value { option_map (λ l. l.now) result ≡ list_of T.value_of (length out.old) self.old }
+        ensures rest { IfSome result (λ l. self.new ≡ after_words (length l.now + 1) self.old) }
+    {
+        let len = self.list_into(out)?;
+        Some(&out[..len])
     }
 
     // Whether the next word says this value.

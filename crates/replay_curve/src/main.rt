@@ -13,7 +13,8 @@ use replay_cases::replay::replay_input;
 use replay_cases::words::Words;
 use std::io;
 
-// More than 16 values are malformed. A refusal keeps what the five places hold before the call.
+// More than 16 values are malformed: a room of fixed size, as a caller in C has it. A refusal keeps what the five places hold
+// before the call.
 fn judge_curve(words: &mut Words<'_>) -> Option<bool> {
     let mut room = [0.0; 16];
     let code = words.value()?;

@@ -2,7 +2,6 @@
 use crate::matrices::{Shape, read_matrices};
 use block_solve::normal::BlockNormal;
 use linalg::elimination::{System, solve};
-use linalg::pair::{cholesky, inverse};
 use replay_cases::same::same_floats;
 use replay_cases::words::Words;
 
@@ -16,7 +15,7 @@ fn agrees<const N: usize>(words: &mut Words<'_>, n: usize, is: Option<[f64; N]>)
     match words.value::<u64>()? {
         0 => Some(is.is_none()),
         1 => {
-            let len = words.list(&mut stored)?.len();
+            let len = words.list_into(&mut stored)?;
             Some(len == n && is.is_some_and(|x| same_floats(&x, &stored)))
         }
         _ => None,
@@ -38,7 +37,7 @@ pub fn judge_solve(words: &mut Words<'_>) -> Option<bool> {
     let mut a = [0.0; 16];
     let mut b = [0.0; 4];
     read_matrices(words, shape, &mut a)?;
-    if words.list(&mut b)?.len() != n {
+    if words.list_into(&mut b)? != n {
         return None;
     }
     agrees(words, n, solve(System { a, b }, n))
@@ -47,7 +46,7 @@ pub fn judge_solve(words: &mut Words<'_>) -> Option<bool> {
 // A matrix of two rows and columns.
 fn read_pair(words: &mut Words<'_>) -> Option<[[f64; 2]; 2]> {
     let mut entries = [0.0; 4];
-    if words.list(&mut entries)?.len() != 4 {
+    if words.list_into(&mut entries)? != 4 {
         return None;
     }
     let [a, b, c, d] = entries;
@@ -58,14 +57,15 @@ fn entries_of(m: [[f64; 2]; 2]) -> [f64; 4] {
     [m[0][0], m[0][1], m[1][0], m[1][1]]
 }
 
-pub fn judge_inverse(words: &mut Words<'_>) -> Option<bool> {
+// What `of` makes of a matrix.
+pub fn judge_pair<F: Fn(usize, [[f64; 2]; 2]) -> Option<[[f64; 2]; 2]>>(
+    words: &mut Words<'_>,
+    of: F,
+) -> Option<bool>
+    requires { F.IsAlwaysCallable of }
+{
     let m = read_pair(words)?;
-    agrees(words, 4, inverse(2, m).map(entries_of))
-}
-
-pub fn judge_cholesky(words: &mut Words<'_>) -> Option<bool> {
-    let m = read_pair(words)?;
-    agrees(words, 4, cholesky(2, m).map(entries_of))
+    agrees(words, 4, of(2, m).map(entries_of))
 }
 
 // A direction's blocks, for p curve values, k effects and groups groups.

@@ -12,7 +12,8 @@
 mod judges;
 mod matrices;
 
-use crate::judges::{judge_cholesky, judge_direction, judge_inverse, judge_solve};
+use crate::judges::{judge_direction, judge_pair, judge_solve};
+use linalg::pair::{cholesky, inverse};
 use replay_cases::replay::replay_input;
 use replay_cases::words::Words;
 use std::io;
@@ -20,8 +21,8 @@ use std::io;
 fn judge(name: &str, words: &mut Words<'_>) -> Option<bool> {
     match name {
         "solve" => judge_solve(words),
-        "inverse" => judge_inverse(words),
-        "cholesky" => judge_cholesky(words),
+        "inverse" => judge_pair(words, inverse),
+        "cholesky" => judge_pair(words, cholesky),
         "direction" => judge_direction(words),
         _ => None,
     }

@@ -1,5 +1,5 @@
 // One judge for each call: reads the rest of a line after its case, calls and compares. The lent lists and the
-// single outputs of a refused call keep what they held.
+// single outputs of a refused call keep what they held. Rooms of fixed size, as a caller in C has them.
 use fit_refusals::Problem;
 use replay_cases::lent::{KEPT, kept};
 use replay_cases::words::Words;

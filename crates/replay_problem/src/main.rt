@@ -23,7 +23,8 @@ use replay_cases::replay::replay_input;
 use replay_cases::words::Words;
 use std::io;
 
-// Lists that are too long are malformed: more than 520 readings, 80 effects in an answer, 8 of all else.
+// Lists that are too long are malformed: more than 520 readings, 80 effects in an answer, 8 of all else. Rooms of fixed size, as
+// a caller in C has them: with `Vec`s each judge takes an allocator, and a want of memory reads as a fault of the line.
 fn judge(name: &str, words: &mut Words<'_>) -> Option<bool> {
     let mut doses = [0.0; 520];
     let mut grams = [0.0; 520];

@@ -11,8 +11,8 @@ use replay_cases::words::Words;
 use self_start::self_start;
 use std::io;
 
-// More than 256 doses, 256 grams or 8 values are malformed, and so is an answer with another number
-// of values than the case lends. A refusal keeps what the values hold before the call.
+// More than 256 doses, 256 grams or 8 values are malformed (rooms of fixed size, as a caller in C has
+// them), and so is an answer with another number of values than the case lends. A refusal keeps what the values hold before the call.
 fn judge(_name: &str, words: &mut Words<'_>) -> Option<bool> {
     let mut doses = [0.0; 256];
     let mut grams = [0.0; 256];

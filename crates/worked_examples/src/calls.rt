@@ -15,7 +15,8 @@ const POINTS: u64 = 3;
 
 const NARROWINGS: u64 = 40;
 
-// What a call answers, and the lists that it is lent as it leaves them; the effects are the first m.
+// What a call answers, and the lists that it is lent as it leaves them, of fixed size, as a caller in C has them; the effects
+// are the first m.
 #[derive(Clone, Copy)]
 pub struct Called<T> {
     pub answer: Result<T, Refusal>,

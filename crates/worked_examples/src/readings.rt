@@ -1,5 +1,5 @@
 // Readings for the weighings of sizes: doses 1, 2, 3, .., grams 1, 1 + 1/64, 1 + 2/64, .., and the groups in turn. There are 520 of
-// each, of which a call is lent as many as it is to have.
+// each, of which a call is lent as many as it is to have; of fixed size, as a caller in C has them.
 ghost use Rattle.std.specs.Prelude.{◌≡◌, length};
 
 pub const READINGS: usize = 520;

@@ -11,7 +11,8 @@ use self_start::self_start;
 use std::io;
 use std::io::Write;
 
-// The curve's floats at some places: 0 the mean, then the gradients. One that refuses has none.
+// The curve's floats at some places: 0 the mean, then the gradients. One that refuses has none. By its code, as document 01
+// writes its rows.
 fn curve_is(code: u64, values: &[f64], dose: f64, expected: &[(usize, f64)]) -> bool {
     let Ok(Mean { mu, d0, d1, d2, d3 }) = curve(code, values, dose) else {
         return false;
@@ -92,7 +93,8 @@ fn weigh_covariance<W: Write>(out: &mut W) -> io::Result<()> {
     )
 }
 
-// Whether the start is not refused, and what it writes is this.
+// Whether the start is not refused, and what it writes is this. By the curve's code, as document 01 writes its rows; the lists
+// and the room for the values as `self_start` takes them.
 fn start_is(code: u64, doses: &[f64], grams: &[f64], expected: &[f64]) -> bool {
     let mut room = [kept(); 4];
     let Some(values) = room.get_mut(..expected.len()) else {
