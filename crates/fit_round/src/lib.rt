@@ -68,7 +68,11 @@ pub struct Ended {
 
 // The rss and the penalised sum of a state; its curves are left in means.
 #[tactic(auto, using(fit_step::specs::laws::Sized::all_fit), unfolding(fit_penalized::specs::Penalized::sum_of))]
-pub fn evaluate_state(q: &NlmmProblem<'_>, state: State, means: &mut [Mean; MAX_READINGS]) -> Evaluated
+pub fn evaluate_state(
+    q: &NlmmProblem<'_>,
+    state: State,
+    means: &mut [Mean; MAX_READINGS],
+) -> Evaluated
     ensures same { result.state ≡ state }
     ensures sums { result ≡ evaluated_of (checked q.now) result.state }
     ensures kept { Means (checked q.now) result.state means.new }
@@ -78,7 +82,7 @@ pub fn evaluate_state(q: &NlmmProblem<'_>, state: State, means: &mut [Mean; MAX_
     Evaluated { state, rss, sum }
 }
 
-// One round: up to 12 attempts of 20 lengths each. The first winner leaves both.
+// One round: up to 12 attempts of 20 lengths each. The first winner leaves both, by the label that document 01 names.
 pub fn round(
     q: &NlmmProblem<'_>,
     x: &Evaluated,
@@ -96,7 +100,8 @@ pub fn round(
     let k = q.effects.len();
     let mut lambda = first;
     let mut trials = 0;
-    for attempt in 0..ATTEMPTS {
+    let mut end = End::Lost;
+    'attempts: for attempt in 0..ATTEMPTS {
         if !n.solve(p, k, q.groups, lambda, d) {
             return Outcome {
                 end: End::Lost,
@@ -114,17 +119,16 @@ pub fn round(
             let y = evaluate_state(q, try_step(q, &x.state, d, alpha), means);
             trials += 1;
             if y.sum < x.sum {
-                let end = End::Won(Winner {
+                end = End::Won(Winner {
                     at: y,
                     lambda: lower_lambda(lambda),
                     step: step_size(alpha, d),
                 });
-                return Outcome { end, trials };
+                break 'attempts;
             }
             alpha *= 0.5;
         }
         lambda = raise_lambda(lambda);
     }
-    let end = End::Lost;
     Outcome { end, trials }
 }
