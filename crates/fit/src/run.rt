@@ -29,6 +29,7 @@ fn end_with(x: &Evaluated, converged: bool, rounds: usize, trials: usize) -> End
 
 // All rounds, from the adjusted, projected start. A round without a winner is the last, and so is a
 // round whose step is below `NEAR`.
+#[tactic(auto, using(crate::proofs::Turns::run_begins))]
 fn run(
     q: &NlmmProblem<'_>,
     allowed: usize,

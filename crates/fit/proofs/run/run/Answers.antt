@@ -1,5 +1,5 @@
 -- The rounds go on as the definition does, each from the last winner with its sums and curves. Assumes nothing.
-use mathlib.Core.Path.{◌≡◌, refl, sym, ap, ◌∙◌}
+use mathlib.Core.Path.{◌≡◌, sym, ap, ◌∙◌}
 use mathlib.Core.Bool.{false}
 use mathlib.Core.List.{List}
 use native.Mathlib.Omega.{arith}
@@ -8,24 +8,13 @@ use Rattle.fit_refusals.specs.Given.{checked}
 use Rattle.fit_penalized.specs.Normal.{blocks_of, normal_of}
 use Rattle.fit_round.specs.Steps.{stopped}
 use Rattle.fit.specs.laws.Steps.{rounds_done}
-use Rattle.fit.proofs.Turns.{run_begins, ends_as, round_lost, round_converged, round_near, round_on}
+use Rattle.fit.proofs.Turns.{ends_as, round_lost, round_converged, round_near, round_on}
 use Rattle.fit.proofs.run.run.Goals as goal
 use Rattle.fit.proofs.run.run.Goals.{After-round-o}
 
 -- the blocks are those of the state that the round goes from
 blocks : (c : After-round-o) → c.normal-n.result ≡ normal_of (checked c.args.q.now) c.loop-i.x.state
 blocks c = c.normal-n.ensures ∙ ap (λ (m : List (List Float)). blocks_of (checked c.args.q.now) m c.loop-i.x.state) c.sigma_inv_from_theta-inverse.ensures
-
-pub loop-i-init : goal.loop-i-init
-loop-i-init c =
-    let x = c.evaluate_state-x.ensures in
-    record {
-      few = omega arith;
-      long = refl;
-      sums = x.sums;
-      curves = x.kept;
-      whole = run_begins _ _ _ _ (x.same ∙ c.start_state.ensures) c.first_lambda-lambda.ensures;
-    }
 
 pub returns-then-w : goal.returns-then-w
 returns-then-w c =
