@@ -1,6 +1,6 @@
 -- A group's effects, and a part of the list that they are written into. Assumes nothing.
-use Rattle.std.proofs.Common.{◌≡◌, refl, ℕ, ◌+◌, ◌*◌, ◌≤◌, [], ◌∷◌, take, arith}
-use Rattle.std.proofs.Common.{zero, suc, add-one, suc-mul}
+use Rattle.std.proofs.Common.{◌≡◌, refl, ℕ, ◌≤◌, [], ◌∷◌, take, arith}
+use Rattle.std.proofs.Common.{zero, suc}
 use Rattle.std.proofs.lemmas.Slice.{take-put_mid}
 use Rattle.math.specs.laws.Parts.{group_fits}
 use lib.Ieee.{Float}
@@ -13,7 +13,4 @@ effects_take (suc zero) x y p q = refl
 effects_take (suc (suc zero)) x y p q = refl
 effects_take (suc (suc (suc k))) x y p q = absurd (omega arith)
 
-pub next_group : (p g k : ℕ) → p + (g + 1) * k ≡ p + g * k + k
-next_group p g k = rw (add-one g, suc-mul g k) (omega arith)
-
-pub ruleset parts = (take-put_mid, group_fits, next_group)
+pub ruleset parts = (take-put_mid, group_fits)

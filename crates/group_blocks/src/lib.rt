@@ -52,7 +52,7 @@ pub struct Group {
     pub cross: [(f64, f64); 4],
 }
 
-// The block solved for the right-hand side, and for each row of the cross block.
+// The block solved for the right-hand side, and for each row of the cross block, with as many places.
 #[derive(Clone, Copy)]
 pub struct Solution {
     pub pair: (f64, f64),
