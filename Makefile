@@ -156,7 +156,7 @@ header-test:
 	@for std in c99 c11; do $(CC) -std=$$std $(STRICT) -fsyntax-only -x c include/kemroul.h || exit 1; done
 	@for std in c++98 c++11; do $(CXX) -std=$$std $(STRICT) -fsyntax-only -x c++ include/kemroul.h || exit 1; done
 
-# A function moves the stack pointer once, at its beginning (stack.c); memcpy, memmove and memset are bound before the calls.
+# A function moves the stack pointer once, at its beginning (stack.c); memcpy and memset are bound before the calls.
 stack: machine
 	@test -f $(ARCHIVE_DIR)/libkemroul.a || { echo "no $(ARCHIVE_DIR)/libkemroul.a: run 'make archive' first" >&2; exit 1; }
 	@mkdir -p target

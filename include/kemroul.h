@@ -20,19 +20,19 @@
  * call: the archive has no writable data. Any number of threads may call at once, as long as no two calls write the
  * same place and nobody writes what a call reads. Given its stack, every call ends; none panics or aborts.
  *
- * Needs. From the C library memcpy, memmove and memset, and nothing else. The archive is one object for x86-64, System V ABI
+ * Needs. From the C library memcpy and memset, and nothing else. The archive is one object for x86-64, System V ABI
  * (Linux and other ELF systems), position-independent, with the instructions that every x86-64 has. As this ABI has
  * it, the stack is aligned to 16 bytes at a call, and the 128 bytes below the stack pointer may be used. The
  * floating-point unit must be as a C program finds it: round to nearest, subnormals kept (neither FTZ nor DAZ),
  * exceptions masked. Calls raise its sticky flags and leave its control alone.
  *
  * Stack, in bytes, the return address with it, without the arguments that the caller passes there: a bound over all
- * paths of the machine code; on the largest inputs as much was measured, for kemroul_start and kemroul_sqrt 8 less
- * (2026-11-26, x86-64, kit logic dac8208d650f15bf, gcc 12.2 and glibc 2.36 around it; `make stack` repeats both):
- *   kemroul_search 67,864    kemroul_criterion 66,952    kemroul_fit 47,528    kemroul_start 16,872
+ * paths of the machine code; on the largest inputs as much was measured, for kemroul_sqrt 8 less
+ * (2026-11-27, x86-64, kit logic dac8208d650f15bf, gcc 12.2 and glibc 2.36 around it; `make stack` repeats both):
+ *   kemroul_search 49,304    kemroul_criterion 48,136    kemroul_fit 48,120    kemroul_start 16,864
  *   kemroul_curve 264    kemroul_sqrt 32    kemroul_exp 8    kemroul_ln 8    kemroul_gh_order 8
- * So 67 KiB are enough for any of them, and 64 KiB are not: an archive of the older kit (logic 097e4c862dff5811) needed
- * at most 60,296 bytes.
+ * So 50 KiB are enough for any of them. Earlier archives needed at most 66,936 bytes (the same kit), and 60,296 (an older
+ * kit, logic 097e4c862dff5811).
  *
  * Time. No time is promised. A fit's grows with its trials times its readings. Proved is that it makes at most 240
  * trials for each round that begins, so at most 240 times max_rounds: 240,000 for the 1,000 rounds that may be allowed.

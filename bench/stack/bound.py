@@ -5,7 +5,7 @@
 Every path of every function is followed (objdump's listing, with the relocations that name the callees), the
 frames of callees are added, and the one function that calls itself, the sort of at most 512 readings, is counted
 at the six levels that halving 512 down to 16 has. The return address counts; the arguments that the caller
-pushes, and what memcpy, memmove and memset need beyond their return address, do not. It ends with an error where the header
+pushes, and what memcpy and memset need beyond their return address, do not. It ends with an error where the header
 states another figure.
 """
 
@@ -14,7 +14,7 @@ import subprocess
 import sys
 
 LEVELS = {"sorting::sort_within": 6}
-OUTSIDE = {"memcpy": 8, "memmove": 8, "memset": 8}
+OUTSIDE = {"memcpy": 8, "memset": 8}
 RED_ZONE = 128
 
 HEAD = re.compile(r"^[0-9a-f]+ <(.+)>:$")
