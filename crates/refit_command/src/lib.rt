@@ -205,12 +205,7 @@ impl<'a, R: Files + AllocGlobal, O: Write, E: Write> Console<'a, R, O, E> {
         }
     }
 
-    fn from_text(
-        &mut self,
-        fit: Fit<'_>,
-        given: Option<[f64; 4]>,
-        text: &[u8],
-    ) -> io::Result<()> {
+    fn from_text(&mut self, fit: Fit<'_>, given: Option<[f64; 4]>, text: &[u8]) -> io::Result<()> {
         let mut doses = [0.0; READINGS];
         let mut grams = [0.0; READINGS];
         let mut groups = [0; READINGS];
@@ -232,12 +227,7 @@ impl<'a, R: Files + AllocGlobal, O: Write, E: Write> Console<'a, R, O, E> {
     }
 
     // The whole file, or the reason why it is not read.
-    fn from_file(
-        &mut self,
-        fit: Fit<'_>,
-        given: Option<[f64; 4]>,
-        name: &[u8],
-    ) -> io::Result<()> {
+    fn from_file(&mut self, fit: Fit<'_>, given: Option<[f64; 4]>, name: &[u8]) -> io::Result<()> {
         let mut text = [0u8; FILE];
         match read_file(self.rt, name, &mut text) {
             Err(e) => self.fail(name, e),
