@@ -8,6 +8,9 @@ use std::io;
 use std::io::Write;
 use std::rt::Env;
 
+// The words' room, in bytes: of a fixed size, as what reads them allocates nothing.
+const WORDS: usize = 65536;
+
 // How many bytes the words take, with a 0 after each; none where there is no room for them.
 fn gathered<R: Env>(rt: &R, words: &mut [u8]) -> Option<usize>
     ensures { IfSome result (λ n. n ≤ length words.new) }
@@ -24,7 +27,7 @@ fn gathered<R: Env>(rt: &R, words: &mut [u8]) -> Option<usize>
 }
 
 fn main(rt: HostRuntime) -> io::Result<()> {
-    let mut words = [0u8; 65536];
+    let mut words = [0u8; WORDS];
     match gathered(&rt, &mut words) {
         Some(n) => refit_command::command(&rt, &words[..n], rt.stdout(), rt.stderr()),
         None => rt

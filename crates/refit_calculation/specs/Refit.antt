@@ -28,7 +28,7 @@ rounds = 200
 abbrev pub narrowings : ℕ
 narrowings = 60
 
--- what is asked: a curve's code, the readings, the indices of the effects, the criterion's kind and its order, and whether the start values are given
+-- what is asked: a curve's code, the readings, the indices of the effects, the criterion's kind and its order
 pub record Asked : Type 0 where
   pub code : ℕ
   pub doses : List Float
@@ -37,18 +37,13 @@ pub record Asked : Type 0 where
   pub effects : List ℕ
   pub reml : Bool
   pub n_agq : ℕ
-  pub given : Bool
 
-abbrev pub asked_of : ℕ → List Float → List Float → List ℕ → List ℕ → Bool → ℕ → Bool → Asked
-asked_of code doses grams group effects reml n_agq given =
-    record { code = code; doses = doses; grams = grams; group = group; effects = effects; reml = reml; n_agq = n_agq; given = given }
+abbrev pub asked_of : ℕ → List Float → List Float → List ℕ → List ℕ → Bool → ℕ → Asked
+asked_of code doses grams group effects reml n_agq =
+    record { code = code; doses = doses; grams = grams; group = group; effects = effects; reml = reml; n_agq = n_agq }
 
 abbrev pub asked : Request → Asked
-asked r = asked_of r.code r.doses.now r.grams.now r.group.now r.effects.now r.reml r.n_agq r.given
-
--- the step that comes first
-abbrev pub first_of : Asked → Step
-first_of r = cond r.given Step.Search Step.Start
+asked r = asked_of r.code r.doses.now r.grams.now r.group.now r.effects.now r.reml r.n_agq
 
 -- what is answered, and the three lent lists as they are left: start values, curve values, effects
 pub record Refitted : Type 0 where
@@ -134,5 +129,5 @@ self_started r starts values b =
     let l = written_of r.code r.doses r.grams starts in
     cond (eqb n 0) (with_starts r (is_adjusted r.code l) (adjusted_of r.code l) values b) (refused_at Step.Start n false l values b)
 
-unfoldable pub refit_of : Asked → List Float → List Float → List Float → Refitted
-refit_of r starts values b = cond r.given (with_starts r false starts values b) (self_started r starts values b)
+unfoldable pub refit_of : Asked → Bool → List Float → List Float → List Float → Refitted
+refit_of r given starts values b = cond given (with_starts r false starts values b) (self_started r starts values b)

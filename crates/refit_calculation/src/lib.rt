@@ -1,10 +1,11 @@
-// Start values, the search over theta, and the fit and criterion there, with no bounds.
+// Start values, the search over theta, and the fit and criterion there, with no bounds. The lists that a refit writes are lent
+// one by one, as a fit and a criterion are lent them.
 #![tactic(auto)]
 
-ghost use Rattle.std.specs.Prelude.{◌≡◌, length};
+ghost use Rattle.std.specs.Prelude.{◌≡◌, length, true, false};
 ghost use Rattle.curves.specs.MeanFn.{code_of};
 ghost use Rattle.fit_refusals.specs.Given.{given};
-ghost use Rattle.refit_calculation.specs.Refit.{asked, first_of, with_fit, with_search, is_adjusted, adjusted_of, with_starts, refit_of};
+ghost use Rattle.refit_calculation.specs.Refit.{asked, with_fit, with_search, is_adjusted, adjusted_of, with_starts, refit_of};
 
 use criterion::criterion;
 use curves::Curve;
@@ -20,8 +21,8 @@ pub const ROUNDS: u64 = 200;
 
 pub const NARROWINGS: u64 = 60;
 
-// What is refitted: the readings of a curve's code, with one effect for each canister at each of the indices in
-// `effects`. `given`: the start values that are lent are taken as they are.
+// What is refitted: the readings of a curve's code, with one effect for each canister at each of the indices in `effects`.
+// The code as fit, criterion and search take it: one that no curve has is refused and no fault of the caller.
 #[derive(Clone, Copy)]
 pub struct Request<'a> {
     pub code: u64,
@@ -31,20 +32,6 @@ pub struct Request<'a> {
     pub effects: &'a [usize],
     pub reml: bool,
     pub n_agq: u64,
-    pub given: bool,
-}
-
-impl Request<'_> {
-    // The step that comes first.
-    fn first_step(&self) -> Step
-        ensures { result ≡ first_of (asked self.now) }
-    {
-        if self.given {
-            Step::Search
-        } else {
-            Step::Start
-        }
-    }
 }
 
 // What was found: theta and the criterion by the search, the rss and the counts by the fit at theta, sigma2 by the
@@ -189,7 +176,25 @@ fn started(
     searched(&problem, r, adjusted, values, b)
 }
 
-// Writes the curve's values and one effect for each canister, and, where they are not given, the start values.
+// From start values that are given, which are taken as they are. Writes the curve's values and one effect for each canister.
+#[tactic(auto, unfolding(crate::specs::Refit::refit_of))]
+pub fn refit_from(
+    request: &Request<'_>,
+    starts: &[f64],
+    values: &mut [f64],
+    b: &mut [f64],
+) -> Result<Answer, Refused>
+    ensures { refit_of (asked request.now) true starts.now values.old b.old
+        ≡ record { answer = result; starts = starts.now; values = values.new; effects = b.new } }
+{
+    let Ok(curve) = Curve::try_from(request.code) else {
+        #[tactic(auto, using(crate::proofs::Laws::no_curve_refused))]
+        return Err(Step::Search.refused(Refusal::Code, false));
+    };
+    started(curve, request, false, starts, values, b)
+}
+
+// The same from the readings' own start values, which are written too.
 #[tactic(auto, unfolding(crate::specs::Refit::refit_of, crate::specs::Refit::self_started))]
 pub fn refit(
     request: &Request<'_>,
@@ -197,15 +202,13 @@ pub fn refit(
     values: &mut [f64],
     b: &mut [f64],
 ) -> Result<Answer, Refused>
-    ensures { refit_of (asked request.now) starts.old values.old b.old
+    ensures { refit_of (asked request.now) false starts.old values.old b.old
         ≡ record { answer = result; starts = starts.new; values = values.new; effects = b.new } }
 {
     let Ok(curve) = Curve::try_from(request.code) else {
-        return Err(request.first_step().refused(Refusal::Code, false));
+        #[tactic(auto, using(crate::proofs::Laws::no_curve_refused))]
+        return Err(Step::Start.refused(Refusal::Code, false));
     };
-    if request.given {
-        return started(curve, request, false, starts, values, b);
-    }
     self_start(request.code, request.doses, request.grams, starts).map_err(
         |refusal| Step::Start.refused(refusal, false),
     )?;

@@ -8,27 +8,31 @@ ghost use Rattle.std.specs.Prelude.{◌≤◌, length, IfOk};
 
 use crate::starts::read_starts;
 use read_table::fault::TableFault;
-use refit_options::options::{Asked, Command, Fit, OptionError, OptionFault, Page};
-use refit_run::task::{Readings, Task};
+use refit_options::options::{Asked, Command, Fit, OptionError, OptionFault, Page, Task};
+use refit_run::readings::{CANISTERS, READINGS, Readings};
 use std::io::{Read, Write};
 use std::rt::Files;
 use std::{fs, io, str};
 use text_buffer::{Span, Text};
 
-// A file has at most so many bytes.
+// A file has at most so many bytes; a longer one is told by the byte after them.
 const LONGEST: usize = 65536;
+
+const FILE: usize = LONGEST + 1;
+
+// The room for a report, for a picture, for the help and for a fault in words: of a fixed size, as what writes into it
+// allocates nothing.
+const REPORT: usize = 131072;
+
+pub const PICTURE: usize = 131072;
+
+const HELP: usize = 65536;
+
+const WORDS: usize = 4096;
 
 // R's data set Orange.
 const ORANGE: &[u8] =
     b"# R's data set Orange: the age in days (dose), the circumference in mm (grams), the tree (canister).\nage,circumference,tree\n118,30,1\n484,58,1\n664,87,1\n1004,115,1\n1231,120,1\n1372,142,1\n1582,145,1\n118,33,2\n484,69,2\n664,111,2\n1004,156,2\n1231,172,2\n1372,203,2\n1582,203,2\n118,30,3\n484,51,3\n664,75,3\n1004,108,3\n1231,115,3\n1372,139,3\n1582,140,3\n118,32,4\n484,62,4\n664,112,4\n1004,167,4\n1231,179,4\n1372,209,4\n1582,214,4\n118,30,5\n484,49,5\n664,81,5\n1004,125,5\n1231,142,5\n1372,174,5\n1582,177,5\n";
-
-// Where readings come from: the name that faults are told with, and the text.
-#[derive(Clone, Copy)]
-struct Source<'a> {
-    name: &'a [u8],
-    text: &'a [u8],
-    example: bool,
-}
 
 // The runtime, and the writers for what is asked for and for faults.
 #[derive(Drop)]
@@ -36,6 +40,25 @@ struct Console<'a, R, O: Write, E: Write> {
     rt: &'a R,
     out: O,
     err: E,
+}
+
+// The name that faults of the readings are told with.
+fn source<'a>(fit: Fit<'a>) -> &'a [u8] {
+    fit.file.unwrap_or(b"the example")
+}
+
+// The start values by hand.
+fn given<'a>(fit: Fit<'a>) -> Result<Option<[f64; 4]>, OptionError<'a>> {
+    let Some(word) = fit.start else {
+        return Ok(None);
+    };
+    match read_starts(word, fit.settings.curve.n_params()) {
+        Some(starts) => Ok(Some(starts)),
+        None => Err(OptionError {
+            word,
+            fault: OptionFault::WrongStarts,
+        }),
+    }
 }
 
 // A system's reason in words, without the number that std puts after them.
@@ -57,7 +80,8 @@ fn path(name: &[u8]) -> io::Result<&str> {
     }
 }
 
-// A file's first bytes, as many as there is room for, and how many they are.
+// A file's first bytes, as many as there is room for, and how many they are. By hand: read_to_end wants a Vec, and
+// read_exact fails at an end before the room is full.
 fn read_file<R: Files>(rt: &R, name: &[u8], text: &mut [u8]) -> io::Result<usize>
     ensures { IfOk result (λ n. n ≤ length text.new) }
 {
@@ -90,7 +114,7 @@ impl<'a, R: Files + AllocGlobal, O: Write, E: Write> Console<'a, R, O, E> {
     }
 
     fn complain_of_word(&mut self, e: OptionError<'_>) -> io::Result<()> {
-        let mut room = [0u8; 4096];
+        let mut room = [0u8; WORDS];
         let mut words = Text::new(&mut room);
         refit_options::options::fault(&mut words, e.fault);
         self.complain(e.word, words.written())
@@ -102,7 +126,7 @@ impl<'a, R: Files + AllocGlobal, O: Write, E: Write> Console<'a, R, O, E> {
         line: Option<u64>,
         fault: TableFault,
     ) -> io::Result<()> {
-        let mut room = [0u8; 4096];
+        let mut room = [0u8; WORDS];
         let mut words = Text::new(&mut room);
         refit_options::words::line_fault(&mut words, line, fault);
         self.complain(name, words.written())
@@ -111,7 +135,7 @@ impl<'a, R: Files + AllocGlobal, O: Write, E: Write> Console<'a, R, O, E> {
     fn print(&mut self, page: Page) -> io::Result<()> {
         match page {
             Page::Help => {
-                let mut room = [0u8; 65536];
+                let mut room = [0u8; HELP];
                 let mut help = Text::new(&mut room);
                 refit_options::help::help(&mut help);
                 self.out.write_all(help.written())
@@ -162,89 +186,64 @@ impl<'a, R: Files + AllocGlobal, O: Write, E: Write> Console<'a, R, O, E> {
     fn refit(
         &mut self,
         fit: Fit<'_>,
-        given: [f64; 4],
-        source: Source<'_>,
+        given: Option<[f64; 4]>,
         readings: &Readings<'_>,
     ) -> io::Result<()> {
-        let mut out = [0u8; 131072];
-        let mut svg = [0u8; 131072];
+        let mut out = [0u8; REPORT];
+        let mut svg = [0u8; PICTURE];
         let mut report = Text::new(&mut out);
         let mut picture = Text::new(&mut svg);
         let task = Task {
             settings: fit.settings,
-            example: source.example,
+            given,
+            example: fit.file.is_none(),
             picture: fit.svg.is_some(),
         };
-        match refit_run::run(&task, readings, given, &mut report, &mut picture) {
-            Err(fault) => self.complain_of_line(source.name, None, fault),
+        match refit_run::run(&task, readings, &mut report, &mut picture) {
+            Err(fault) => self.complain_of_line(source(fit), None, fault),
             Ok(()) => self.show(fit.svg, &report, &picture),
         }
     }
 
-    fn from_text(&mut self, fit: Fit<'_>, given: [f64; 4], source: Source<'_>) -> io::Result<()> {
-        let mut doses = [0.0; 512];
-        let mut grams = [0.0; 512];
-        let mut groups = [0; 512];
-        let mut names = [Span { start: 0, stop: 0 }; 32];
-        match read_table::read_table(source.text, &mut doses, &mut grams, &mut groups, &mut names) {
-            Err(e) => self.complain_of_line(source.name, Some(e.read.lines), e.fault),
+    fn from_text(&mut self, fit: Fit<'_>, given: Option<[f64; 4]>, text: &[u8]) -> io::Result<()> {
+        let mut doses = [0.0; READINGS];
+        let mut grams = [0.0; READINGS];
+        let mut groups = [0; READINGS];
+        let mut names = [Span { start: 0, stop: 0 }; CANISTERS];
+        match read_table::read_table(text, &mut doses, &mut grams, &mut groups, &mut names) {
+            Err(e) => self.complain_of_line(source(fit), Some(e.read.lines), e.fault),
             Ok(read) => {
                 let readings = Readings {
-                    text: source.text,
+                    text,
                     doses: &doses[..read.count],
                     grams: &grams[..read.count],
                     group: &groups[..read.count],
                     names: &names,
                     canisters: read.canisters,
                 };
-                self.refit(fit, given, source, &readings)
+                self.refit(fit, given, &readings)
             }
         }
     }
 
     // The whole file, or the reason why it is not read.
-    fn from_file(&mut self, fit: Fit<'_>, given: [f64; 4], name: &[u8]) -> io::Result<()> {
-        let mut text = [0u8; 65537];
+    fn from_file(&mut self, fit: Fit<'_>, given: Option<[f64; 4]>, name: &[u8]) -> io::Result<()> {
+        let mut text = [0u8; FILE];
         match read_file(self.rt, name, &mut text) {
             Err(e) => self.fail(name, e),
             Ok(n) if n > LONGEST => self.complain(
                 name,
                 b"the file is longer than 65536 bytes, or was not read whole",
             ),
-            Ok(n) => {
-                let source = Source {
-                    name,
-                    text: &text[..n],
-                    example: false,
-                };
-                self.from_text(fit, given, source)
-            }
+            Ok(n) => self.from_text(fit, given, &text[..n]),
         }
     }
 
     fn fits(&mut self, fit: Fit<'_>) -> io::Result<()> {
-        let given = match fit.start {
-            None => [0.0; 4],
-            Some(word) => match read_starts(word, fit.settings.curve.n_params()) {
-                Some(starts) => starts,
-                None => {
-                    return self.complain_of_word(OptionError {
-                        word,
-                        fault: OptionFault::WrongStarts,
-                    });
-                }
-            },
-        };
-        match fit.file {
-            Some(name) => self.from_file(fit, given, name),
-            None => {
-                let source = Source {
-                    name: b"the example",
-                    text: ORANGE,
-                    example: true,
-                };
-                self.from_text(fit, given, source)
-            }
+        match (given(fit), fit.file) {
+            (Err(e), _) => self.complain_of_word(e),
+            (Ok(given), Some(name)) => self.from_file(fit, given, name),
+            (Ok(given), None) => self.from_text(fit, given, ORANGE),
         }
     }
 }

@@ -134,7 +134,7 @@ abbrev pub fits_at : Asked → Curve → ℕ → Command
 fits_at o curve place =
     Command.Fits
     (record {
-      settings = record { curve = curve; place = place; reml = unwrap_or o.reml false; n_agq = unwrap_or o.n_agq 1; given = is_some o.start };
+      settings = record { curve = curve; place = place; reml = unwrap_or o.reml false; n_agq = unwrap_or o.n_agq 1 };
       file = o.file;
       svg = o.svg;
       start = o.start;

@@ -4,8 +4,10 @@ use Rattle.std.specs.List.{list_any}
 use Rattle.std.specs.Str.{str_eq_ignore_ascii_case}
 use Rattle.text_buffer.specs.Text.{whole_text}
 use Rattle.curves.specs.declared.mean_fn.Curve.{Curve}
+use Rattle.curves.specs.MeanFn.{code_of}
 use Rattle.refusal.specs.declared.Refusal.{Refusal}
 use Rattle.read_table.specs.declared.fault.TableFault.{TableFault}
+use Rattle.svg_axes.specs.Subject.{curve_name}
 
 -- a word names a value of some curve, in capitals or small letters
 unfoldable pub is_name : List ℕ → Bool
@@ -27,10 +29,7 @@ place_of code word = position (λ name. str_eq_ignore_ascii_case name word) (nam
 
 -- a word is a curve's name
 abbrev pub is_curve : List ℕ → Curve → Bool
-is_curve word Curve.Sslogis = str_eq_ignore_ascii_case (codes "SSlogis") word
-is_curve word Curve.Ssasymp = str_eq_ignore_ascii_case (codes "SSasymp") word
-is_curve word Curve.Ssmicmen = str_eq_ignore_ascii_case (codes "SSmicmen") word
-is_curve word Curve.Ssfpl = str_eq_ignore_ascii_case (codes "SSfpl") word
+is_curve word curve = str_eq_ignore_ascii_case (curve_name (code_of curve)) word
 
 unfoldable pub curve_named : List ℕ → Option Curve
 curve_named word = find (is_curve word) (Curve.Sslogis ∷ Curve.Ssasymp ∷ Curve.Ssmicmen ∷ Curve.Ssfpl ∷ [])

@@ -66,14 +66,13 @@ const FLAGS: [Flag; 9] = [
 ];
 
 // How the readings are fitted: the curve, the place of the effect among its values, restricted or plain maximum likelihood,
-// the order of quadrature, and whether start values are given by hand.
+// and the order of quadrature.
 #[derive(Clone, Copy)]
 pub struct Settings {
     pub curve: Curve,
     pub place: usize,
     pub reml: bool,
     pub n_agq: u64,
-    pub given: bool,
 }
 
 // A fit of the readings of a file, or of the example; the picture's name, and start values by hand.
@@ -83,6 +82,16 @@ pub struct Fit<'a> {
     pub file: Option<&'a [u8]>,
     pub svg: Option<&'a [u8]>,
     pub start: Option<&'a [u8]>,
+}
+
+// What a run is asked for: how the readings are fitted, from which start values by hand, whether the readings are the
+// example, and whether a picture is asked for.
+#[derive(Clone, Copy)]
+pub struct Task {
+    pub settings: Settings,
+    pub given: Option<[f64; 4]>,
+    pub example: bool,
+    pub picture: bool,
 }
 
 #[derive(Clone, Copy)]
@@ -127,7 +136,7 @@ fn is_flag(flag: Flag, word: &[u8]) -> bool
     }
 }
 
-// The option that a word is.
+// The option that a word is; std's `find`, as in `curve_named`, each over a list of its own.
 #[tactic(auto, unfolding(crate::specs::Options::flag_of))]
 fn flag_of(word: &[u8]) -> Option<Flag>
     ensures { result ≡ flag_of word.now }
@@ -306,7 +315,6 @@ impl<'a> Asked<'a> {
             place,
             reml: self.reml.unwrap_or(false),
             n_agq: self.n_agq.unwrap_or(1),
-            given: self.start.is_some(),
         };
         Ok(Command::Fits(Fit {
             settings,

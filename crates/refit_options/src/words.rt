@@ -7,6 +7,7 @@ ghost use Rattle.refit_options.specs.Words.{is_name, names_of, place_of, is_curv
 use curves::Curve;
 use read_table::fault::TableFault;
 use refusal::Refusal;
+use svg_axes::subject::curve_name;
 use text_buffer::Text;
 use text_lines::same::{find_word, is_among, same_word};
 
@@ -54,12 +55,7 @@ pub fn place_of(curve: Curve, word: &[u8]) -> Option<usize>
 fn is_curve(curve: Curve, word: &[u8]) -> bool
     ensures { result ≡ is_curve word.now curve }
 {
-    match curve {
-        Curve::Sslogis => same_word(b"SSlogis", word),
-        Curve::Ssasymp => same_word(b"SSasymp", word),
-        Curve::Ssmicmen => same_word(b"SSmicmen", word),
-        Curve::Ssfpl => same_word(b"SSfpl", word),
-    }
+    same_word(curve_name(curve), word)
 }
 
 // The curve that a word names.
@@ -78,6 +74,7 @@ pub fn name(out: &mut Text<'_>, curve: Curve, i: usize)
     out.put(names(curve).get(i).copied().unwrap_or(b"?"));
 }
 
+// The name within its line, as it is printed: put apart they would be two texts, here and in the definition.
 #[tactic(auto, unfolding(crate::specs::Words::curve_text))]
 fn curve_words(curve: Curve) -> &'static [u8]
     ensures { result.now ≡ curve_text (code_of curve) }

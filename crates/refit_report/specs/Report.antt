@@ -10,7 +10,7 @@ use Rattle.refit_calculation.specs.declared.Answer.{Answer}
 use Rattle.refit_calculation.specs.declared.Refused.{Refused}
 use Rattle.refit_calculation.specs.declared.Step.{Step}
 use Rattle.refit_calculation.specs.declared.Step.TheVariants.{Start, Search, Fit}
-use Rattle.refit_options.specs.declared.options.Settings.{Settings}
+use Rattle.refit_options.specs.declared.options.Task.{Task}
 use Rattle.refit_options.specs.Words.{name_text, refusal_text}
 use Rattle.refit_options.specs.Words as Words
 use Rattle.refit_warnings.specs.Warnings.{Results}
@@ -33,16 +33,16 @@ asked_text s =
 unfoldable pub quadrature_text : ℕ → List ℕ
 quadrature_text order = cond (ltb 1 order) (filled (codes "  quadrature    order %n\n") (order ∷ []) []) []
 
-unfoldable pub beginning_text : Settings → Bool → Shown → Bool → List ℕ
-beginning_text o example s warned =
+unfoldable pub beginning_text : Task → Shown → Bool → List ℕ
+beginning_text o s warned =
     joined (
-    cond example
+    cond o.example
     (codes
     "No file was named: this is R's data set Orange, with the age in days as the dose, the circumference\nin mm as the grams and the tree as the canister. 'refit help' tells what else can be asked.\n\n")
     []
     ∷ asked_text s
-    ∷ cond o.reml (codes "  method        restricted maximum likelihood\n") (codes "  method        maximum likelihood\n")
-    ∷ quadrature_text o.n_agq
+    ∷ cond o.settings.reml (codes "  method        restricted maximum likelihood\n") (codes "  method        maximum likelihood\n")
+    ∷ quadrature_text o.settings.n_agq
     ∷ cond warned (codes "  *** WARNINGS: read them at the end ***\n") []
     ∷ [])
 
@@ -158,11 +158,11 @@ results_text r =
     ∷ warnings_text r
     ∷ [])
 
-unfoldable pub told_text : Settings → Bool → Results → List ℕ
-told_text o example r =
+unfoldable pub told_text : Task → Results → List ℕ
+told_text o r =
     joined (
-    beginning_text o example r.shown (is_some (first_of r))
-    ∷ starts_text r.shown.code o.given r.refit.adjusted r.starts
+    beginning_text o r.shown (is_some (first_of r))
+    ∷ starts_text r.shown.code (is_some o.given) r.refit.adjusted r.starts
     ∷ results_text r
     ∷ [])
 
@@ -175,10 +175,10 @@ begun_by Fit t = t
 unfoldable pub begun_text : ℕ → Bool → List Float → Refused → List ℕ
 begun_text code given starts e = begun_by e.step (starts_text code given e.adjusted starts)
 
-unfoldable pub without_text : Settings → Bool → Shown → List Float → Refused → List ℕ
-without_text o example s starts e =
-    joined (beginning_text o example s false ∷ begun_text s.code o.given starts e ∷ refused_text e ∷ [])
+unfoldable pub without_text : Task → Shown → List Float → Refused → List ℕ
+without_text o s starts e =
+    joined (beginning_text o s false ∷ begun_text s.code (is_some o.given) starts e ∷ refused_text e ∷ [])
 
-unfoldable pub report_text : Settings → Bool → Shown → List Float → Result Answer Refused → List ℕ
-report_text o example s starts (Ok refit) = told_text o example (record { shown = s; starts = starts; n_agq = o.n_agq; refit = refit })
-report_text o example s starts (Err e) = without_text o example s starts e
+unfoldable pub report_text : Task → Shown → List Float → Result Answer Refused → List ℕ
+report_text o s starts (Ok refit) = told_text o (record { shown = s; starts = starts; n_agq = o.settings.n_agq; refit = refit })
+report_text o s starts (Err e) = without_text o s starts e

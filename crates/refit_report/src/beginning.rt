@@ -4,7 +4,7 @@ ghost use Rattle.text_buffer.specs.Text.{wrote};
 ghost use Rattle.svg_axes.specs.Subject.{shown};
 ghost use Rattle.refit_report.specs.Report.{asked_text, quadrature_text, beginning_text};
 
-use refit_options::options::Settings;
+use refit_options::options::Task;
 use refit_options::words::{curve, name};
 use svg_axes::subject::Subject;
 use text_buffer::Text;
@@ -51,21 +51,21 @@ fn quadrature(out: &mut Text<'_>, order: u64)
     }
 }
 
-pub fn beginning(out: &mut Text<'_>, o: &Settings, example: bool, s: &Subject<'_>, warned: bool)
-    ensures { out.new ≡ wrote out.old (beginning_text o.now example (shown s.now) warned) }
+pub fn beginning(out: &mut Text<'_>, o: &Task, s: &Subject<'_>, warned: bool)
+    ensures { out.new ≡ wrote out.old (beginning_text o.now (shown s.now) warned) }
 {
     when(
         out,
-        example,
+        o.example,
         b"No file was named: this is R's data set Orange, with the age in days as the dose, the circumference\nin mm as the grams and the tree as the canister. 'refit help' tells what else can be asked.\n\n",
     );
     asked(out, s);
     either(
         out,
-        o.reml,
+        o.settings.reml,
         b"  method        restricted maximum likelihood\n",
         b"  method        maximum likelihood\n",
     );
-    quadrature(out, o.n_agq);
+    quadrature(out, o.settings.n_agq);
     when(out, warned, b"  *** WARNINGS: read them at the end ***\n");
 }

@@ -13,7 +13,7 @@ ghost use Rattle.refit_report.specs.Report.{value_lines, values_text, note_text,
 use crate::beginning::{beginning, either, when};
 use curves::Curve;
 use refit_calculation::{Answer, Refused, Step};
-use refit_options::options::Settings;
+use refit_options::options::Task;
 use refit_options::words::{name, refusal};
 use refit_tables::{canisters, readings};
 use refit_warnings::findings::Findings;
@@ -22,7 +22,7 @@ use svg_axes::subject::Subject;
 use text_buffer::Text;
 use text_lines::template::fill;
 
-// A line for each value of the curve.
+// A line for each value of the curve: a template as it is printed, the names with their column's width.
 #[tactic(auto, unfolding(crate::specs::Report::value_lines))]
 fn value_lines(curve: Curve) -> &'static [u8]
     ensures { result.now ≡ value_lines (code_of curve) }
@@ -81,6 +81,7 @@ fn converged(out: &mut Text<'_>, is: bool)
     );
 }
 
+#[tactic(auto, using(text_buffer::specs::laws::Text::writing), unfolding(crate::specs::Report::theta_text))]
 fn theta_of(out: &mut Text<'_>, r: &Answer)
     ensures { out.new ≡ wrote out.old (theta_text r.now) }
 {
@@ -93,6 +94,7 @@ fn theta_of(out: &mut Text<'_>, r: &Answer)
     converged(out, r.search.converged);
 }
 
+#[tactic(auto, using(text_buffer::specs::laws::Text::writing), unfolding(crate::specs::Report::spread_of))]
 fn spread_of(out: &mut Text<'_>, curve: Curve, place: usize, x: f64)
     ensures { out.new ≡ wrote out.old (spread_of (code_of curve) place x) }
 {
@@ -193,12 +195,12 @@ fn results_of(out: &mut Text<'_>, f: &Findings<'_>)
 
 // The report of a refit that was not refused.
 #[tactic(auto, using(text_buffer::specs::laws::Text::writing), unfolding(crate::specs::Report::told_text))]
-fn told(out: &mut Text<'_>, o: &Settings, example: bool, f: &Findings<'_>)
-    ensures { out.new ≡ wrote out.old (told_text o.now example (results f.now)) }
+fn told(out: &mut Text<'_>, o: &Task, f: &Findings<'_>)
+    ensures { out.new ≡ wrote out.old (told_text o.now (results f.now)) }
 {
     let s = &f.subject;
-    beginning(out, o, example, s, first(f).is_some());
-    starts_of(out, s.curve, o.given, f.refit.adjusted, f.starts);
+    beginning(out, o, s, first(f).is_some());
+    starts_of(out, s.curve, o.given.is_some(), f.refit.adjusted, f.starts);
     results_of(out, f);
 }
 
@@ -214,42 +216,34 @@ fn begun(out: &mut Text<'_>, curve: Curve, given: bool, starts: &[f64], e: Refus
 }
 
 #[tactic(auto, using(text_buffer::specs::laws::Text::writing), unfolding(crate::specs::Report::without_text))]
-fn without(
-    out: &mut Text<'_>,
-    o: &Settings,
-    example: bool,
-    s: &Subject<'_>,
-    starts: &[f64],
-    e: Refused,
-)
-    ensures { out.new ≡ wrote out.old (without_text o.now example (shown s.now) starts.now e) }
+fn without(out: &mut Text<'_>, o: &Task, s: &Subject<'_>, starts: &[f64], e: Refused)
+    ensures { out.new ≡ wrote out.old (without_text o.now (shown s.now) starts.now e) }
 {
-    beginning(out, o, example, s, false);
-    begun(out, s.curve, o.given, starts, e);
+    beginning(out, o, s, false);
+    begun(out, s.curve, o.given.is_some(), starts, e);
     refused(out, e);
 }
 
 #[tactic(auto, unfolding(crate::specs::Report::report_text))]
 pub fn report(
     out: &mut Text<'_>,
-    o: &Settings,
-    example: bool,
+    o: &Task,
     s: &Subject<'_>,
     starts: &[f64],
     answer: Result<Answer, Refused>,
 )
-    ensures { out.new ≡ wrote out.old (report_text o.now example (shown s.now) starts.now answer) }
+    ensures { out.new ≡ wrote out.old (report_text o.now (shown s.now) starts.now answer) }
 {
     match answer {
         Ok(refit) => {
             let f = Findings {
                 subject: *s,
                 starts,
-                n_agq: o.n_agq,
+                n_agq: o.settings.n_agq,
                 refit,
             };
-            told(out, o, example, &f);
+            told(out, o, &f);
         }
-        Err(e) => without(out, o, example, s, starts, e),
+        Err(e) => without(out, o, s, starts, e),
     }
 }

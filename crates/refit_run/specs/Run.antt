@@ -1,5 +1,5 @@
 -- A run: the refit of readings, its report, and the picture if one is asked for.
-use Rattle.std.specs.Prelude.{ℕ, ◌≤◌, cond, ◌||◌, List, [], ◌∷◌, nat_lt, Float, length, take, replicate, Result, Ok, Err}
+use Rattle.std.specs.Prelude.{ℕ, ◌≤◌, cond, ◌||◌, List, [], ◌∷◌, nat_lt, Float, length, take, replicate, is_some, unwrap_or, Result, Ok, Err}
 use Rattle.math.specs.Basic.{zero}
 use Rattle.curves.specs.MeanFn.{code_of, n_params_of}
 use Rattle.text_buffer.specs.declared.Span.{Span}
@@ -10,10 +10,10 @@ use Rattle.svg_picture.specs.Picture.{picture_text}
 use Rattle.refit_calculation.specs.declared.Answer.{Answer}
 use Rattle.refit_calculation.specs.declared.Refused.{Refused}
 use Rattle.refit_calculation.specs.Refit.{Refitted, asked_of, refit_of}
+use Rattle.refit_options.specs.declared.options.Task.{Task}
 use Rattle.refit_warnings.specs.Told.{first_of, title_of}
 use Rattle.refit_report.specs.Report.{report_text}
-use Rattle.refit_run.specs.declared.task.Task.{Task}
-use Rattle.refit_run.specs.declared.task.Readings.{Readings}
+use Rattle.refit_run.specs.declared.readings.Readings.{Readings}
 
 -- Readings of the code, with their slices' lists
 pub record Read : Type 0 where
@@ -52,7 +52,7 @@ picture_of o shown starts (Ok refit) svg =
 
 -- the report and the picture of a refit
 abbrev pub told_of : Task → Shown → List Float → Result Answer Refused → Written → Written → Written × Written
-told_of o shown starts answer out svg = (wrote out (report_text o.settings o.example shown starts answer), picture_of o shown starts answer svg)
+told_of o shown starts answer out svg = (wrote out (report_text o shown starts answer), picture_of o shown starts answer svg)
 
 -- what is shown of a refit
 abbrev pub shown_of : Task → Read → Refitted → Shown
@@ -72,15 +72,15 @@ shown_of o r t =
 unfoldable pub answer_of : Task → Read → List Float → List Float → List Float → Written → Written → Written × Written
 answer_of o r starts values effects out svg =
     let t = refit_of
-    (asked_of (code_of o.settings.curve) r.doses (take (length r.doses) r.grams) (take (length r.doses) r.group) (o.settings.place ∷ []) o.settings.reml o.settings.n_agq o.settings.given)
-    starts values effects in
+    (asked_of (code_of o.settings.curve) r.doses (take (length r.doses) r.grams) (take (length r.doses) r.group) (o.settings.place ∷ []) o.settings.reml o.settings.n_agq)
+    (is_some o.given) starts values effects in
     told_of o (shown_of o r t) t.starts t.answer out svg
 
 -- of the start values those that are given, as many as the curve has
-unfoldable pub answered : Task → Read → List Float → Written → Written → Written × Written
-answered o r given out svg =
+unfoldable pub answered : Task → Read → Written → Written → Written × Written
+answered o r out svg =
     let k = n_params_of (code_of o.settings.curve) in
-    answer_of o r (take k given) (replicate k zero) (replicate r.canisters zero) out svg
+    answer_of o r (take k (unwrap_or o.given (replicate 4 zero))) (replicate k zero) (replicate r.canisters zero) out svg
 
 -- what came of it, and the two texts; a fault writes nothing
 abbrev pub Ran : Type 0
@@ -90,5 +90,5 @@ abbrev pub run_from : Result (Unit {0}) TableFault → Written × Written → Wr
 run_from (Ok u) told out svg = (Ok tt, told.0, told.1)
 run_from (Err e) told out svg = (Err e, out, svg)
 
-unfoldable pub run_of : Task → Read → List Float → Written → Written → Ran
-run_of o r given out svg = run_from (fault_of r) (answered o r given out svg) out svg
+unfoldable pub run_of : Task → Read → Written → Written → Ran
+run_of o r out svg = run_from (fault_of r) (answered o r out svg) out svg

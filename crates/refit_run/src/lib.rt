@@ -3,16 +3,18 @@
 // one is asked for, into lent buffers.
 #![tactic(auto)]
 
-pub mod task;
+pub mod readings;
 
-ghost use Rattle.std.specs.Prelude.{◌≡◌, ◌≤◌, IfOk, length};
+ghost use Rattle.std.specs.Prelude.{◌≡◌, ◌≤◌, IfOk, is_some};
 ghost use Rattle.curves.specs.MeanFn.{code_of, n_params_of};
+ghost use Rattle.refit_calculation.specs.Refit.{asked, refit_of};
 ghost use Rattle.svg_axes.specs.Subject.{shown};
-ghost use Rattle.refit_run.specs.Run.{InReach, read, fault_of, picture_of, told_of, answer_of, answered, run_of};
+ghost use Rattle.refit_run.specs.Run.{InReach, read, fault_of, picture_of, told_of, answered, run_of};
 
-use crate::task::{Readings, Task};
+use crate::readings::{CANISTERS, READINGS, Readings};
 use read_table::fault::TableFault;
-use refit_calculation::{Answer, Refused, Request, refit};
+use refit_calculation::{Answer, Refused, Request, refit, refit_from};
+use refit_options::options::Task;
 use refit_report::report;
 use refit_warnings::findings::Findings;
 use refit_warnings::told::{first, title};
@@ -58,25 +60,58 @@ fn told(
 )
     ensures { (out.new, svg.new) ≡ told_of o.now (shown subject.now) starts.now answer out.old svg.old }
 {
-    report(out, &o.settings, o.example, subject, starts, answer);
+    report(out, o, subject, starts, answer);
     picture(svg, o, subject, starts, answer);
 }
 
-// The refit of readings that are in reach, and what is told of it.
-#[tactic(auto, unfolding(crate::specs::Run::answer_of))]
-fn answer(
+// The refit from the start values that are given, or from the readings' own.
+fn refitted(
     o: &Task,
-    readings: &Readings<'_>,
+    request: &Request<'_>,
     starts: &mut [f64],
     values: &mut [f64],
     effects: &mut [f64],
-    out: &mut Text<'_>,
-    svg: &mut Text<'_>,
-)
-    requires { InReach (read readings.now) }
-    ensures { (out.new, svg.new) ≡ answer_of o.now (read readings.now) starts.old values.old effects.old out.old svg.old }
+) -> Result<Answer, Refused>
+    ensures { refit_of (asked request.now) (is_some o.now.given) starts.old values.old effects.old
+        ≡ record { answer = result; starts = starts.new; values = values.new; effects = effects.new } }
+{
+    match o.given {
+        Some(_) => refit_from(request, starts, values, effects),
+        None => refit(request, starts, values, effects),
+    }
+}
+
+// More readings than 512 or than a list has, or more canisters than 32.
+#[tactic(auto, unfolding(crate::specs::Run::fault_of))]
+fn within_reach(readings: &Readings<'_>) -> Result<(), TableFault>
+    ensures value { result ≡ fault_of (read readings.now) }
+    ensures in_reach { IfOk result (λ _. InReach (read readings.now)) }
 {
     let n = readings.doses.len();
+    if n > READINGS || n > readings.grams.len() || n > readings.group.len() {
+        return Err(TableFault::TooManyReadings);
+    }
+    if readings.canisters > CANISTERS {
+        return Err(TableFault::TooManyCanisters);
+    }
+    Ok(())
+}
+
+#[tactic(auto, unfolding(curves::specs::MeanFn::n_params_of))]
+fn n_values(o: &Task) -> usize
+    ensures value { result ≡ n_params_of (code_of o.now.settings.curve) }
+    ensures few { result ≤ 4 }
+{
+    o.settings.curve.n_params()
+}
+
+// The refit of readings that are in reach, and what is told of it.
+fn answer(o: &Task, readings: &Readings<'_>, out: &mut Text<'_>, svg: &mut Text<'_>)
+    requires { InReach (read readings.now) }
+    ensures { (out.new, svg.new) ≡ answered o.now (read readings.now) out.old svg.old }
+{
+    let n = readings.doses.len();
+    let k = n_values(o);
     let place = [o.settings.place];
     let request = Request {
         code: o.settings.curve.code(),
@@ -86,9 +121,14 @@ fn answer(
         effects: &place,
         reml: o.settings.reml,
         n_agq: o.settings.n_agq,
-        given: o.settings.given,
     };
-    let answer = refit(&request, starts, values, effects);
+    let mut starts = o.given.unwrap_or([0.0; 4]);
+    let mut values = [0.0; 4];
+    let mut effects = [0.0; CANISTERS];
+    let starts = &mut starts[..k];
+    let values = &mut values[..k];
+    let effects = &mut effects[..readings.canisters];
+    let answer = refitted(o, &request, starts, values, effects);
     let subject = Subject {
         curve: o.settings.curve,
         place: o.settings.place,
@@ -103,69 +143,17 @@ fn answer(
     told(o, &subject, starts, answer, out, svg);
 }
 
-// More readings than 512 or than a list has, or more canisters than 32.
-#[tactic(auto, unfolding(crate::specs::Run::fault_of))]
-fn within_reach(readings: &Readings<'_>) -> Result<(), TableFault>
-    ensures value { result ≡ fault_of (read readings.now) }
-    ensures in_reach { IfOk result (λ _. InReach (read readings.now)) }
-{
-    let n = readings.doses.len();
-    if n > 512 || n > readings.grams.len() || n > readings.group.len() {
-        return Err(TableFault::TooManyReadings);
-    }
-    if readings.canisters > 32 {
-        return Err(TableFault::TooManyCanisters);
-    }
-    Ok(())
-}
-
-#[tactic(auto, unfolding(curves::specs::MeanFn::n_params_of))]
-fn n_values(o: &Task) -> usize
-    ensures value { result ≡ n_params_of (code_of o.now.settings.curve) }
-    ensures few { result ≤ 4 }
-{
-    o.settings.curve.n_params()
-}
-
-// The same from `given` start values, as many as the curve has, and from zeros.
-fn answer_from(
-    o: &Task,
-    readings: &Readings<'_>,
-    given: [f64; 4],
-    out: &mut Text<'_>,
-    svg: &mut Text<'_>,
-)
-    requires { InReach (read readings.now) }
-    ensures { (out.new, svg.new) ≡ answered o.now (read readings.now) given out.old svg.old }
-{
-    let k = n_values(o);
-    let mut starts = given;
-    let mut values = [0.0; 4];
-    let mut effects = [0.0; 32];
-    answer(
-        o,
-        readings,
-        &mut starts[..k],
-        &mut values[..k],
-        &mut effects[..readings.canisters],
-        out,
-        svg,
-    );
-}
-
-// The refit of readings, told in words, from `given` start values where it is asked that some are given; a fault where
-// the lists hold fewer readings or there are too many.
+// The refit of readings, told in words; a fault where the lists hold fewer readings or there are too many.
 #[tactic(auto, unfolding(crate::specs::Run::run_of))]
 pub fn run(
     o: &Task,
     readings: &Readings<'_>,
-    given: [f64; 4],
     out: &mut Text<'_>,
     svg: &mut Text<'_>,
 ) -> Result<(), TableFault>
-    ensures { (result, out.new, svg.new) ≡ run_of o.now (read readings.now) given out.old svg.old }
+    ensures { (result, out.new, svg.new) ≡ run_of o.now (read readings.now) out.old svg.old }
 {
     within_reach(readings)?;
-    answer_from(o, readings, given, out, svg);
+    answer(o, readings, out, svg);
     Ok(())
 }

@@ -1,7 +1,7 @@
 // Runs the command `refit` on the files of data/, and writes what it writes: reports and pictures, and why a run is refused.
 #![tactic(auto)]
 
-use refit_command::command;
+use refit_command::{PICTURE, command};
 use std::io::{Stdout, Write};
 use std::rt::Files;
 use std::{fs, io};
@@ -41,7 +41,7 @@ fn a_machine<R: Files + AllocGlobal>(rt: &R, out: Stdout) -> io::Result<()> {
         out,
         b"machine.csv\0--curve\0SSmicmen\0--svg\0picture.svg\0",
     )?;
-    picture(rt, out, 131072)?;
+    picture(rt, out, PICTURE)?;
     Ok(())
 }
 

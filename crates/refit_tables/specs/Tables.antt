@@ -1,25 +1,18 @@
 -- The two tables of a report: each canister's own curve, and each reading beside its curve.
-use Rattle.std.specs.Prelude.{ℕ, ◌-◌, cond, List, [], ◌∷◌, eqb, Float, length, get_or, slice_get, slice_index, Option, Some, None, codes, fold}
+use Rattle.std.specs.Prelude.{ℕ, ◌-◌, cond, List, [], ◌∷◌, eqb, Float, length, get_or, slice_index, codes, fold}
 use Rattle.std.specs.Float.{nan}
 use Rattle.std.specs.Float.Ieee.{lt}
-use Rattle.std.proofs.Math.Seq.{slice}
 use Rattle.math.specs.Basic.{add, sub, bits, abs_of, max_of}
 use Rattle.math.specs.Basic as Basic
-use Rattle.text_buffer.specs.declared.Span.{Span}
 use Rattle.text_buffer.specs.Text.{joined}
 use Rattle.text_lines.specs.Lines.{left_text, cell_text}
 use Rattle.text_floats.specs.Floats.{decimals_of, fixed_text, figure_text}
-use Rattle.svg_axes.specs.Subject.{Shown}
+use Rattle.svg_axes.specs.Subject.{Shown, name_of}
 use Rattle.svg_axes.specs.Ranges.{curve_at}
 use Rattle.svg_marks.specs.Escape.{each}
 
--- canister g's name stands in the text
-abbrev pub named : List ℕ → Option Span → List ℕ
-named text (Some span) = slice span.start span.stop text
-named text None = []
-
 unfoldable pub name_text : Shown → ℕ → List ℕ
-name_text s g = left_text 14 (named s.text (slice_get s.names g))
+name_text s g = left_text 14 (name_of s g)
 
 unfoldable pub canister_text : Shown → ℕ → List ℕ
 canister_text s g = joined (codes "  " ∷ name_text s g ∷ [])

@@ -20,10 +20,7 @@ use text_lines::columns;
 fn name(out: &mut Text<'_>, s: &Subject<'_>, g: usize)
     ensures { out.new ≡ wrote out.old (name_text (shown s.now) g) }
 {
-    match s.names.get(g) {
-        Some(span) => columns::left(out, 14, span.of(s.text)),
-        None => columns::left(out, 14, b""),
-    }
+    columns::left(out, 14, s.name(g));
 }
 
 #[tactic(auto, using(text_buffer::specs::laws::Text::writing), unfolding(crate::specs::Tables::canister_text))]
@@ -64,6 +61,7 @@ fn own_value(out: &mut Text<'_>, s: &Subject<'_>, effect: f64, i: usize)
     columns::fixed(out, 13, own, decimals_for(math::abs(value)));
 }
 
+// A loop of one call, as of canister_rows and of svg_picture's canisters: each calls a function of its own.
 #[tactic(auto, using(svg_marks::proofs::Laws::running))]
 fn own_values(out: &mut Text<'_>, s: &Subject<'_>, effect: f64)
     ensures { out.new ≡ wrote out.old (each (own_text (shown s.now) effect) (length s.now.values.now)) }
@@ -94,7 +92,7 @@ fn canister_rows(out: &mut Text<'_>, s: &Subject<'_>)
     }
 }
 
-// What stands over the values.
+// What stands over the values, as it is printed: put together of the names it would be a loop, and its definition another.
 fn heads(curve: Curve) -> &'static [u8]
     ensures { result.now ≡ heads_of (code_of curve) }
 {

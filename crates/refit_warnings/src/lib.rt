@@ -12,6 +12,7 @@ ghost use Rattle.refit_warnings.specs.Warnings.{added_of, sum_of, mean_of, squar
 
 use crate::findings::{Findings, Warning};
 use curves::Curve;
+use svg_axes::subject::Subject;
 
 // How many readings there are, as a float, and the sum of their grams.
 #[derive(Clone, Copy)]
@@ -33,26 +34,26 @@ fn added(s: Sum, is: bool, grams: f64) -> Sum
     }
 }
 
-// The readings of canister g.
+// The readings of canister g. By index and no zip: where grams are missing, `at` says NaN.
 #[tactic(auto, using(math::specs::laws::Loops::iter_zero, math::specs::laws::Loops::iter_next), unfolding(crate::specs::Warnings::sum_of))]
-fn readings_of(group: &[usize], grams: &[f64], g: usize) -> Sum
-    ensures { result ≡ sum_of group.now grams.now g }
+fn readings_of(s: &Subject<'_>, g: usize) -> Sum
+    ensures { result ≡ sum_of s.now.group.now s.now.grams.now g }
 {
-    let mut s = Sum {
+    let mut sum = Sum {
         count: 0.0,
         total: 0.0,
     };
-    for (i, &of) in group.iter().enumerate() {
-        s = added(s, of == g, math::at(grams, i));
+    for (i, &of) in s.group.iter().enumerate() {
+        sum = added(sum, of == g, math::at(s.grams, i));
     }
-    s
+    sum
 }
 
-fn mean(group: &[usize], grams: &[f64], g: usize) -> f64
-    ensures { result ≡ mean_of group.now grams.now g }
+fn mean(s: &Subject<'_>, g: usize) -> f64
+    ensures { result ≡ mean_of s.now.group.now s.now.grams.now g }
 {
-    let s = readings_of(group, grams, g);
-    s.total / s.count
+    let sum = readings_of(s, g);
+    sum.total / sum.count
 }
 
 fn square(d: f64) -> f64
@@ -61,31 +62,31 @@ fn square(d: f64) -> f64
     d * d
 }
 
-// The rss of a constant for each canister.
+// The rss of a constant for each canister. By index, as above.
 #[tactic(auto, using(math::specs::laws::Loops::iter_zero, math::specs::laws::Loops::iter_next), unfolding(crate::specs::Warnings::constant_rss))]
-fn constant_rss(group: &[usize], grams: &[f64]) -> f64
-    ensures { result ≡ constant_rss group.now grams.now }
+fn constant_rss(s: &Subject<'_>) -> f64
+    ensures { result ≡ constant_rss s.now.group.now s.now.grams.now }
 {
-    let mut s = 0.0;
-    for (i, &g) in group.iter().enumerate() {
-        s += square(math::at(grams, i) - mean(group, grams, g));
+    let mut rss = 0.0;
+    for (i, &g) in s.group.iter().enumerate() {
+        rss += square(math::at(s.grams, i) - mean(s, g));
     }
-    s
+    rss
 }
 
 // Whether the fit's rss is no lower than that, but for rounding.
-fn explains_nothing(rss: f64, group: &[usize], grams: &[f64]) -> bool
-    ensures { result ≡ explains_nothing rss group.now grams.now }
+fn explains_nothing(f: &Findings<'_>) -> bool
+    ensures { result ≡ explains_nothing f.now.refit.fit.rss f.now.subject.group.now f.now.subject.grams.now }
 {
-    !(rss < constant_rss(group, grams) * 0.999999)
+    !(f.refit.fit.rss < constant_rss(&f.subject) * 0.999999)
 }
 
 // Whether value i is where it started.
 #[tactic(auto, unfolding(crate::specs::Warnings::is_unmoved))]
-fn is_unmoved(starts: &[f64], values: &[f64], i: usize) -> bool
-    ensures { result ≡ is_unmoved starts.now values.now i }
+fn is_unmoved(f: &Findings<'_>, i: usize) -> bool
+    ensures { result ≡ is_unmoved f.now.starts.now f.now.subject.values.now i }
 {
-    i < values.len() && math::at(values, i) == math::at(starts, i)
+    i < f.subject.values.len() && math::at(f.subject.values, i) == math::at(f.starts, i)
 }
 
 // A trial puts a scal that would fall below 1e-6 there: what ends so is a step and no fit, though it may have converged.
@@ -136,11 +137,11 @@ pub fn warns(f: &Findings<'_>, warning: Warning) -> bool
     let groups = s.effects.len();
     let theta = f.refit.search.theta;
     match warning {
-        Warning::Unmoved(i) => is_unmoved(f.starts, s.values, i),
+        Warning::Unmoved(i) => is_unmoved(f, i),
         Warning::Search => !f.refit.search.converged,
         Warning::Fit => !f.refit.fit.converged,
         Warning::Step => is_step(s.curve, s.values),
-        Warning::Nothing => explains_nothing(f.refit.fit.rss, s.group, s.grams),
+        Warning::Nothing => explains_nothing(f),
         Warning::Few => few(s.doses, s.values.len(), groups),
         Warning::Low => groups > 1 && theta < 0.201,
         Warning::High => groups > 1 && theta > 19.999,

@@ -1,8 +1,0 @@
--- The texts of the definition, one by one.
-use Rattle.text_buffer.specs.laws.Text.{joined_none, joined_then}
-use Rattle.refit_report.specs.Report.{theta_text}
-use Rattle.refit_report.proofs.theta_of.Goals as goal
-
-pub returns : goal.returns
-unfolding theta_text
-returns c = simp (joined_then, joined_none) (cc)
