@@ -41,9 +41,6 @@ returns-then-not-solve-clause-comes c =
     let d = none (goal.at.returns-then-not-solve-clause-comes c).After-solve c.if-not-solve.true in
     λ win r u. sym (A.invariant.whole win r u) ∙ attempts_none _ _ _ _ win r (u + A.trials) 12 A.attempt A.lambda c.attempts-test.true d
 
-pub returns-then-not-solve-clause-few : goal.returns-then-not-solve-clause-few
-returns-then-not-solve-clause-few c = omega (arith, c.attempts.invariant.few, c.attempts-test.true)
-
 pub returns-then-largest-clause-comes : goal.returns-then-largest-clause-comes
 returns-then-largest-clause-comes c =
     let A = c.attempts in
