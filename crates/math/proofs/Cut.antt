@@ -6,7 +6,7 @@ use lib.Ieee.{Float, nan, inf, fin, binary64, up, down, lt, le, to_signed, of_in
 use lib.Ieee.Back.{round_whole}
 use lib.Ieee.Exact.{HasValue}
 use lib.Ieee.Fits.{down_pos}
-use Rattle.math.proofs.Basic.{clash, clash'}
+use Rattle.math.specs.laws.Order.{clash, clash'}
 use Rattle.math.proofs.Ints.{mag_add, sfits_small}
 use Rattle.math.specs.Words.{to_int}
 

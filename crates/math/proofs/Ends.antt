@@ -7,7 +7,7 @@ use Rattle.math.specs.Basic.{add}
 use Rattle.math.specs.Exp.{exp_of}
 use Rattle.math.specs.Ln.{normal_of, ln_of}
 use Rattle.math.specs.laws.Computes.{exp_computes, ln_computes}
-use Rattle.math.proofs.Basic.{clash'}
+use Rattle.math.specs.laws.Order.{clash'}
 
 pub exp_nan : (x : Float) → is_nan x ≡ true → exp_of x ≡ add x x
 unfolding exp_computes is_nan

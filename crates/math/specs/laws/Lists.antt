@@ -6,7 +6,7 @@ use Rattle.math.specs.Lists.{every, same_lists, same_bytes}
 
 -- ---- two tests that are joined
 
-both : (a b : Bool) → (a && b) ≡ true → (a ≡ true) × (b ≡ true)
+pub both : (a b : Bool) → (a && b) ≡ true → (a ≡ true) × (b ≡ true)
 both true b h = (refl, h)
 both false b h = absurd (subst T (sym h) tt)
 
