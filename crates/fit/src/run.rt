@@ -28,7 +28,8 @@ fn end_with(x: &Evaluated, converged: bool, rounds: usize, trials: usize) -> End
 }
 
 // All rounds, from the adjusted, projected start. A round without a winner is the last, and so is a
-// round whose step is below `NEAR`.
+// round whose step is below `NEAR`. The direction d is a lent list and no struct: each round writes it, and its trials
+// read it.
 #[tactic(auto, using(crate::proofs::Turns::run_begins))]
 fn run(
     q: &NlmmProblem<'_>,
