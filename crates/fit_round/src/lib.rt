@@ -68,7 +68,11 @@ pub struct Ended {
 
 // The rss and the penalised sum of a state; its curves are left in means.
 #[tactic(auto, using(fit_step::specs::laws::Sized::all_fit), unfolding(fit_penalized::specs::Penalized::sum_of))]
-pub fn evaluate_state(q: &NlmmProblem<'_>, state: State, means: &mut [Mean; MAX_READINGS]) -> Evaluated
+pub fn evaluate_state(
+    q: &NlmmProblem<'_>,
+    state: State,
+    means: &mut [Mean; MAX_READINGS],
+) -> Evaluated
     ensures same { result.state ≡ state }
     ensures sums { result ≡ evaluated_of (checked q.now) result.state }
     ensures kept { Means (checked q.now) result.state means.new }
