@@ -8,7 +8,8 @@ ghost use Rattle.re_cov.specs.ReCov.{penalty_of};
 ghost use Rattle.criterion_groups.specs.Groups.{group_squares};
 ghost use Rattle.criterion_agq.specs.Agq.{scaling_of, nodes_of, node_of, moved_of, term_of, terms_of, add_group, group_at, groups_of, agq_of};
 
-use criterion_groups::{Estimate, Filled, Group, own_readings};
+use arrayvec::ArrayVec;
+use criterion_groups::{Estimate, Group, own_readings};
 use linalg::pair::{cholesky, inverse};
 use math::ln::ln;
 use quadrature::orders::resolve_gh_order_product;
@@ -38,7 +39,7 @@ struct Misfit {
 }
 
 // What the nodes are multiplied by: 1 / the root of one effect's curvature, or the lower factor of the
-// inverse of two effects'.
+// inverse of two effects'. Here and below k is a count, and no kind: one effect or two.
 #[tactic(auto, unfolding(crate::specs::Agq::scaling_of))]
 fn scaling(k: usize, curvature: [[f64; 2]; 2]) -> Option<[[f64; 2]; 2]>
     ensures { result ≡ scaling_of k curvature }
@@ -132,13 +133,13 @@ impl Quadrature<'_> {
 
     // The terms of a group's nodes.
     #[tactic(auto, using(math::specs::laws::Loops::iter_next), unfolding(crate::specs::Agq::terms_of, math::specs::Loops::iter))]
-    fn terms(&self, group: &Group<'_>, scaling: [[f64; 2]; 2]) -> Filled<NODES>
-        ensures { result ≡ terms_of (checked self.now.at.now.problem.now) self.now.at.now.values self.now.sigma2 self.now.order
+    fn terms(&self, group: &Group<'_>, scaling: [[f64; 2]; 2]) -> ArrayVec<f64, NODES>
+        ensures { result.items ≡ terms_of (checked self.now.at.now.problem.now) self.now.at.now.values self.now.sigma2 self.now.order
             group.now.doses.now group.now.grams.now group.now.b.now scaling }
     {
         let k = self.at.problem.effects.len();
         let hat = self.misfit(group);
-        let mut terms = Filled::new();
+        let mut terms = ArrayVec::new();
         for t in 0..node_count(k, self.order) {
             let n = node_at(k, self.order, t);
             let b = moved(k, scaling, n, group.b);

@@ -2,64 +2,24 @@
 // `group_obs`), their gradients and their sums at effects b.
 #![tactic(auto)]
 
-ghost use Rattle.std.specs.Prelude.{◌≡◌, ◌≤◌, ◌<◌, ◌*◌, ◌++◌, List, [], ◌∷◌, Float, length, take};
+ghost use Rattle.std.specs.Prelude.{◌≡◌, ◌≤◌, ◌<◌, ◌*◌, Float, length};
 ghost use Rattle.math.specs.Parts.{part};
 ghost use Rattle.fit_refusals.specs.Given.{checked};
 ghost use Rattle.criterion_groups.specs.Groups.{own_of, group_squares, block_by};
 
+use arrayvec::ArrayVec;
 use curves::mean_fn::effective;
 use fit_penalized::normal::random_gradients;
 use fit_refusals::{MAX_READINGS, NlmmProblem};
-use std::marker::Model;
-
-// The numbers so far of a list with N places.
-#[derive(Drop)]
-pub struct Filled<const N: usize> {
-    places: [f64; N],
-    len: usize,
-}
-
-impl<const N: usize> Model for Filled<N> {
-    ghost Value = { List Float };
-
-    ghost view = { λ l. take l.len l.places };
-
-    ghost invariant = { λ l. l.len ≤ N };
-}
-
-impl<const N: usize> Filled<N> {
-    pub fn new() -> Self
-        ensures { result ≡ [] }
-    {
-        Filled {
-            places: [0.0; N],
-            len: 0,
-        }
-    }
-
-    pub fn push(&mut self, x: f64)
-        requires { length self.old < N }
-        ensures { self.new ≡ self.old ++ x ∷ [] }
-    {
-        self.places[self.len] = x;
-        self.len += 1;
-    }
-
-    pub fn as_slice(&self) -> &[f64]
-        ensures { result.now ≡ self.now }
-    {
-        &self.places[..self.len]
-    }
-}
 
 // What a list has at the readings of group g, in their order.
 #[tactic(auto, using(crate::proofs::Laws::own_zip))]
-pub fn own_readings(group: &[usize], g: usize, list: &[f64]) -> Filled<MAX_READINGS>
+pub fn own_readings(group: &[usize], g: usize, list: &[f64]) -> ArrayVec<f64, MAX_READINGS>
     requires many { length group.now ≤ 512 }
     requires each { length group.now ≤ length list.now }
-    ensures { result ≡ own_of group.now g list.now }
+    ensures { result.items ≡ own_of group.now g list.now }
 {
-    let mut own = Filled::new();
+    let mut own = ArrayVec::new();
     for (&h, &x) in group.iter().zip(list) {
         if h == g {
             own.push(x);

@@ -43,6 +43,7 @@ impl Asked<'_> {
         };
         let p = q.curve.n_params();
         let n = q.groups * q.effects.len();
+        // Room of a fixed size, since there is no heap: four curve values, one or two effects of 32 groups.
         let mut values = [0.0; 4];
         let mut effects = [0.0; 64];
         criterion_checked(

@@ -11,6 +11,6 @@ invariant-loop-h l =
     let list = l.h-iterator.b.rest.now in
     record {
       each : length group ≤ length list;
-      fits : length l.own + length group ≤ 512;
-      so_far : fold (own_next l.g) l.own (zip group list) ≡ own_of l.group l.g l.list;
+      fits : length l.own.items + length group ≤ 512;
+      so_far : fold (own_next l.g) l.own.items (zip group list) ≡ own_of l.group l.g l.list;
     }

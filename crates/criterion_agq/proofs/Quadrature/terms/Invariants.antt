@@ -8,5 +8,5 @@ use Rattle.criterion_agq.proofs.Quadrature.terms.Given as goal
 
 abbrev pub invariant-loop-t : goal.invariant-loop-t
 invariant-loop-t l =
-    (length l.terms ≡ l.t)
-    × (l.terms ≡ iter (more_terms (checked l.self.at.now.problem.now) l.self.at.now.values l.self.sigma2 l.self.order l.group.doses.now l.group.grams.now l.group.b.now l.scaling) l.t [])
+    (length l.terms.items ≡ l.t)
+    × (l.terms.items ≡ iter (more_terms (checked l.self.at.now.problem.now) l.self.at.now.values l.self.sigma2 l.self.order l.group.doses.now l.group.grams.now l.group.b.now l.scaling) l.t [])
