@@ -35,6 +35,10 @@ n_params_of code = cond (eqb code 3) 2 (cond (eqb code 4) 4 3)
 unfoldable pub scal_index_of : ℕ → Option ℕ
 scal_index_of code = cond (eqb code 1) (Some 2) (cond (eqb code 4) (Some 3) None)
 
+-- a curve's values in four places, of which those past its last are not read
+abbrev pub four_of : List Float → List Float
+four_of l = get_or l 0 nan ∷ get_or l 1 nan ∷ get_or l 2 nan ∷ get_or l 3 nan ∷ []
+
 -- `eval`, at the values of a list
 unfoldable pub eval_of : ℕ → List Float → Float → Mean
 eval_of code v x =

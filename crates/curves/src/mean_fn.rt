@@ -1,7 +1,7 @@
 // A curve's values, and the curve of a reading whose group has effects. Four places hold a curve's
 // values; those past its last are not read.
 ghost use Rattle.std.specs.Prelude.{◌≡◌};
-ghost use Rattle.curves.specs.MeanFn.{Decodes, code_of, n_params_of, scal_index_of, eval_of, effective_of, eval_with_re_of};
+ghost use Rattle.curves.specs.MeanFn.{Decodes, code_of, n_params_of, scal_index_of, four_of, eval_of, effective_of, eval_with_re_of};
 
 use crate::Mean;
 use crate::ssasymp::ssasymp_eval;
@@ -97,6 +97,18 @@ impl Curve {
     {
         self.eval(x, effective(params, re_param_indices, re_offsets))
     }
+}
+
+// A curve's values in four places; those past its last are NaNs.
+pub fn four(values: &[f64]) -> [f64; 4]
+    ensures { result ≡ four_of values.now }
+{
+    [
+        math::at(values, 0),
+        math::at(values, 1),
+        math::at(values, 2),
+        math::at(values, 3),
+    ]
 }
 
 // The values with each effect added at its index; an index past the fourth value adds nothing.

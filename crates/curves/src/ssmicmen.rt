@@ -1,25 +1,15 @@
 // The Michaelis-Menten curve (`SSmicmen`): vmax * x / (k + x). The fraction comes before the product,
 // and no denominator is squared: either could overflow where the mean and its gradients do not.
 ghost use Rattle.std.specs.Prelude.{◌≡◌};
-ghost use Rattle.curves.specs.Ssmicmen.{ssmicmen_of};
+ghost use Rattle.curves.specs.Ssmicmen.{micmen_of, ssmicmen_of};
 
 use crate::Mean;
 
-#[tactic(auto, unfolding(crate::specs::Ssmicmen::micmen_of, crate::specs::Ssmicmen::overflow_of, crate::specs::Ssmicmen::ssmicmen_of))]
-pub fn ssmicmen_eval(vmax: f64, k: f64, x: f64) -> Mean
-    ensures { result ≡ ssmicmen_of vmax k x }
+// The mean from the fraction on; k + x is scale * scaled_denom. A function of its own: inlined with the literal 1.0, it has no quotient by scale.
+#[tactic(auto, unfolding(crate::specs::Ssmicmen::micmen_of))]
+fn micmen_at(vmax: f64, d_vmax: f64, scale: f64, scaled_denom: f64) -> Mean
+    ensures { result ≡ micmen_of vmax d_vmax scale scaled_denom }
 {
-    let denom = k + x;
-
-    // Only a sum of two finite floats that overflows is scaled: k + x is scale * scaled_denom.
-    let overflows = math::is_infinite(denom) && math::is_finite(k) && math::is_finite(x);
-    let (d_vmax, scale, scaled_denom) = if overflows {
-        let scale = math::max(math::abs(k), math::abs(x));
-        let scaled_denom = k / scale + x / scale;
-        ((x / scale) / scaled_denom, scale, scaled_denom)
-    } else {
-        (x / denom, 1.0, denom)
-    };
     let mu = vmax * d_vmax;
     Mean {
         mu,
@@ -27,5 +17,22 @@ pub fn ssmicmen_eval(vmax: f64, k: f64, x: f64) -> Mean
         d1: -(mu / scale) / scaled_denom,
         d2: 0.0,
         d3: 0.0,
+    }
+}
+
+#[tactic(auto, unfolding(crate::specs::Ssmicmen::overflow_of, crate::specs::Ssmicmen::ssmicmen_of))]
+pub fn ssmicmen_eval(vmax: f64, k: f64, x: f64) -> Mean
+    ensures { result ≡ ssmicmen_of vmax k x }
+{
+    let denom = k + x;
+
+    // Only a sum of two finite floats that overflows is scaled.
+    let overflows = math::is_infinite(denom) && math::is_finite(k) && math::is_finite(x);
+    if overflows {
+        let scale = math::max(math::abs(k), math::abs(x));
+        let scaled_denom = k / scale + x / scale;
+        micmen_at(vmax, (x / scale) / scaled_denom, scale, scaled_denom)
+    } else {
+        micmen_at(vmax, x / denom, 1.0, denom)
     }
 }

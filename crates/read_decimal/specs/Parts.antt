@@ -1,10 +1,9 @@
 -- What the two parts of the reader hand on.
-use Rattle.std.specs.Prelude.{ℕ, ◌+◌, cond, List, nat_le, nat_lt, Float, Result, Ok, Err}
+use Rattle.std.specs.Prelude.{ℕ, ◌+◌, Bool, cond, List, ℤ, pos, neg_ℤ, int_lt, unsigned_abs, nat_le, nat_lt, Float, Result, Ok, Err}
 use Rattle.read_decimal.specs.Scan.{capped, limit}
 use Rattle.read_decimal.specs.Decimal.{has_digit, ends_right, is_negative, is_small, mantissa_of, places_of, written_of, fraction_end, scaled_of, tens}
 use Rattle.read_decimal.specs.declared.DecimalError.{DecimalError}
 use Rattle.read_decimal.specs.declared.parts.Mantissa.{Mantissa}
-use Rattle.read_decimal.specs.declared.parts.Power.{Power}
 
 -- the digits, where there is one
 unfoldable pub read_mantissa : List ℕ → Result Mantissa DecimalError
@@ -14,15 +13,18 @@ read_mantissa text =
     (Err DecimalError.NotADecimal)
 
 -- the power of ten, where the text ends right
-unfoldable pub read_power : List ℕ → Result Power DecimalError
-read_power text = cond (ends_right text) (Ok (record { negative = is_small text; digits = capped (written_of text) })) (Err DecimalError.NotADecimal)
+unfoldable pub power_from : Bool → ℕ → ℤ
+power_from negative size = cond negative (neg_ℤ (pos size)) (pos size)
+
+unfoldable pub read_power : List ℕ → Result ℤ DecimalError
+read_power text = cond (ends_right text) (Ok (power_from (is_small text) (capped (written_of text)))) (Err DecimalError.NotADecimal)
 
 -- `number_of` over what was read
-unfoldable pub numbered_of : Mantissa → Power → Result Float DecimalError
+unfoldable pub numbered_of : Mantissa → ℤ → Result Float DecimalError
 numbered_of m p =
     cond (nat_lt m.digits limit)
-    (cond (nat_lt p.digits limit)
-    (cond p.negative (scaled_of m.negative m.digits 0 (m.places + p.digits)) (scaled_of m.negative m.digits p.digits m.places))
+    (cond (nat_lt (unsigned_abs p) limit)
+    (cond (int_lt p (pos 0)) (scaled_of m.negative m.digits 0 (m.places + unsigned_abs p)) (scaled_of m.negative m.digits (unsigned_abs p) m.places))
     (Err DecimalError.PowerOutOfRange))
     (Err DecimalError.TooManyDigits)
 

@@ -11,14 +11,14 @@ ghost use Rattle.std.specs.Prelude.{◌≡◌, ◌^◌, ◌<◌};
 ghost use Rattle.read_decimal.specs.Decimal.{decimal_of, error_number};
 ghost use Rattle.read_decimal.specs.Parts.{numbered_of};
 
-use crate::parts::{Mantissa, Power, read_mantissa, read_power};
+use crate::parts::{Mantissa, read_mantissa, read_power};
 use crate::scale::scaled;
 use crate::scan::LIMIT;
 
 // Why a text is refused.
 #[derive(Clone, Copy, Debug, PartialEq, Eq)]
 pub enum DecimalError {
-    NotADecimal,
+    NotADecimal = 1,
     TooManyDigits,
     PowerOutOfRange,
 }
@@ -28,16 +28,12 @@ impl DecimalError {
     pub fn number(self) -> u64
         ensures { result ≡ error_number self }
     {
-        match self {
-            DecimalError::NotADecimal => 1,
-            DecimalError::TooManyDigits => 2,
-            DecimalError::PowerOutOfRange => 3,
-        }
+        self as u64
     }
 }
 
 // The whole of `text` is the number.
-#[tactic(auto, using(crate::proofs::AnswerLaws::uncapped), unfolding(crate::specs::Decimal::decimal_of, crate::specs::Decimal::is_decimal, crate::specs::Parts::read_mantissa, crate::specs::Parts::read_power))]
+#[tactic(auto, using(crate::proofs::AnswerLaws::numbered_is), unfolding(crate::specs::Decimal::decimal_of, crate::specs::Decimal::is_decimal, crate::specs::Parts::read_mantissa, crate::specs::Parts::read_power))]
 pub fn read_decimal(text: &[u8]) -> Result<f64, DecimalError>
     ensures { result ≡ decimal_of text.now }
 {
@@ -48,20 +44,21 @@ pub fn read_decimal(text: &[u8]) -> Result<f64, DecimalError>
 
 // More than 15 digits come before a power out of range.
 #[tactic(auto, unfolding(crate::specs::Parts::numbered_of))]
-fn numbered(m: Mantissa, p: Power) -> Result<f64, DecimalError>
+fn numbered(m: Mantissa, power: i64) -> Result<f64, DecimalError>
     requires { m.places < 2 ^ 63 }
-    ensures { result ≡ numbered_of m p }
+    ensures { result ≡ numbered_of m power }
 {
     if m.digits >= LIMIT {
         return Err(DecimalError::TooManyDigits);
     }
-    if p.digits >= LIMIT {
+    let size = power.unsigned_abs();
+    if size >= LIMIT {
         return Err(DecimalError::PowerOutOfRange);
     }
     let places = m.places as u64;
-    if p.negative {
-        scaled(m.negative, m.digits, 0, places + p.digits)
+    if power < 0 {
+        scaled(m.negative, m.digits, 0, places + size)
     } else {
-        scaled(m.negative, m.digits, p.digits, places)
+        scaled(m.negative, m.digits, size, places)
     }
 }

@@ -6,20 +6,13 @@ ghost use Rattle.read_decimal.specs.Parts.{read_mantissa, read_power};
 use crate::DecimalError;
 use crate::scan::{digits_end, number, past, stands};
 
-// All digits as one number, at most 10^15; how many stand after the point; where they end.
+// All digits as one number, at most 10^15; how many stand after the point; where they end. The sign is apart, as -0 has one too.
 #[derive(Clone, Copy)]
 pub struct Mantissa {
     pub negative: bool,
     pub digits: u64,
     pub places: usize,
     pub end: usize,
-}
-
-// The power of ten as it is written, at most 10^15.
-#[derive(Clone, Copy)]
-pub struct Power {
-    pub negative: bool,
-    pub digits: u64,
 }
 
 // The digits that `text` begins with, where there is one.
@@ -46,9 +39,9 @@ pub fn read_mantissa(text: &[u8]) -> Result<Mantissa, DecimalError>
     }
 }
 
-// What follows the digits, from `end` on: nothing, which is the power 0, or a power that has a digit.
-#[tactic(auto, unfolding(crate::specs::Parts::read_power, crate::specs::Decimal::ends_right, crate::specs::Decimal::is_small, crate::specs::Decimal::written_of, crate::specs::Decimal::power_end, crate::specs::Decimal::power_digits_at, crate::specs::Decimal::power_at))]
-pub fn read_power(text: &[u8], end: usize) -> Result<Power, DecimalError>
+// What follows the digits, from `end` on: nothing, which is the power 0, or a power that has a digit, of a size of at most 10^15.
+#[tactic(auto, unfolding(crate::specs::Parts::read_power, crate::specs::Parts::power_from, crate::specs::Decimal::ends_right, crate::specs::Decimal::is_small, crate::specs::Decimal::written_of, crate::specs::Decimal::power_end, crate::specs::Decimal::power_digits_at, crate::specs::Decimal::power_at))]
+pub fn read_power(text: &[u8], end: usize) -> Result<i64, DecimalError>
     requires end_value { end ≡ fraction_end text.now }
     requires end_in_bounds { end ≤ length text.now }
     ensures { result ≡ read_power text.now }
@@ -58,8 +51,8 @@ pub fn read_power(text: &[u8], end: usize) -> Result<Power, DecimalError>
     let last = digits_end(text, start);
     if end == text.len() || (end < mark && start < last && last == text.len()) {
         let negative = stands(text, mark, b'-');
-        let digits = number(&text[start..last], 0);
-        Ok(Power { negative, digits })
+        let size = number(&text[start..last], 0) as i64;
+        Ok(if negative { -size } else { size })
     } else {
         Err(DecimalError::NotADecimal)
     }

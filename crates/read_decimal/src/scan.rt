@@ -47,6 +47,7 @@ pub fn digits_end(text: &[u8], at: usize) -> usize
 }
 
 // The digits as a number after those that make n, and 10^15 where that is less.
+#[tactic(auto, using(crate::proofs::NumberLaws::capped_from), unfolding(crate::specs::Scan::value_from))]
 pub fn number(digits: &[u8], n: u64) -> u64
     ensures { result ≡ capped (value_from n digits.now) }
 {

@@ -25,7 +25,6 @@ stops_at Stop.Separator b = is_separator b
 stops_at Stop.Letter b = is_ascii_alphabetic b
 stops_at Stop.EndOfSpaces b = not (is_space b)
 stops_at Stop.EndOfWord b = is_space b || is_separator b
-stops_at Stop.EndOfName b = not (is_name_byte b)
 stops_at Stop.EndOfLetters b = not (is_ascii_alphabetic b)
 
 -- whether such a byte stands at a place

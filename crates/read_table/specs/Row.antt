@@ -1,10 +1,11 @@
 -- One line of a table: three fields, dose, grams and canister, apart by a comma, a semicolon or a tab with spaces around, or by spaces alone.
 use Rattle.std.specs.Prelude.{ℕ, ◌+◌, ◌-◌, Bool, not, ◌&&◌, ◌||◌, cond, List, ◌==◌, nat_le, nat_lt, length, Float, Option, Some, None, Result, Ok, Err}
+use Rattle.std.specs.List.{list_all, list_any}
 use Rattle.math.specs.Parts.{part}
 use Rattle.read_decimal.specs.Decimal.{decimal_of}
 use Rattle.read_decimal.specs.declared.DecimalError.{DecimalError}
 use Rattle.text_buffer.specs.declared.Span.{Span}
-use Rattle.read_table.specs.Classes.{meets, scan_of}
+use Rattle.read_table.specs.Classes.{is_name_byte, meets, scan_of}
 use Rattle.read_table.specs.Header.{in_order}
 use Rattle.read_table.specs.declared.classes.Stop.{Stop}
 use Rattle.read_table.specs.declared.fault.TableFault.{TableFault}
@@ -37,21 +38,24 @@ field_of line at =
     let after = scan_of Stop.EndOfSpaces line word.tail in
     record { bytes = word.bytes; after = after; next = next_of line after }
 
+-- a field's bytes
+abbrev pub bytes_of : List ℕ → Span → List ℕ
+bytes_of line field = part field.start (field.stop - field.start) line
+
 -- 1 to 32 bytes, each one that a name may have
-unfoldable pub named_of : List ℕ → Span → Bool
-named_of line name =
-    nat_lt name.start name.stop && nat_le (name.stop - name.start) 32 && nat_le name.stop (scan_of Stop.EndOfName line name.start)
+unfoldable pub named_of : List ℕ → Bool
+named_of name = nat_lt 0 (length name) && nat_le (length name) 32 && list_all is_name_byte name
 
 -- whether a field's bytes hold a comma, as quotes allow
-unfoldable pub comma_in : List ℕ → Span → Bool
-comma_in line field = nat_lt (scan_of Stop.Comma line field.start) field.stop
+unfoldable pub comma_in : List ℕ → Bool
+comma_in field = list_any (λ b. b == 44) field
 
 -- A decimal comma: one inside a number, or one that separates on one side of the grams and not on the other, as in `118;30,5;a` and `1,5 2,5 a`.
 -- All commas are separators in `1,5,2,5,a`, where nothing tells them apart.
 unfoldable pub decimal_comma : List ℕ → Field → Field → Bool
 decimal_comma line d g =
-    comma_in line d.bytes
-    || comma_in line g.bytes
+    comma_in (bytes_of line d.bytes)
+    || comma_in (bytes_of line g.bytes)
     || (nat_lt g.next (length line) && cond (meets Stop.Comma line d.after) (not (meets Stop.Comma line g.after)) (meets Stop.Comma line g.after))
 
 -- a field that is no decimal has a fault of its own for the dose and for the grams
@@ -66,7 +70,7 @@ told_number no_decimal (Err e) = Err (told_of no_decimal e)
 
 -- the decimal that a field's bytes are
 abbrev pub number_from : TableFault → List ℕ → Span → Result Float TableFault
-number_from no_decimal line field = told_number no_decimal (decimal_of (part field.start (field.stop - field.start) line))
+number_from no_decimal line field = told_number no_decimal (decimal_of (bytes_of line field))
 
 -- the dose's fault, then the grams', then that there is no name
 abbrev pub reading_from : Result Float TableFault → Result Float TableFault → Bool → Span → Result Reading TableFault
@@ -79,7 +83,7 @@ unfoldable pub reading_of : List ℕ → Field → Field → Field → Result Re
 reading_of line d g c =
     cond (decimal_comma line d g) (Err TableFault.DecimalComma)
     (cond (nat_lt g.next (length line) && c.after == length line)
-    (reading_from (number_from TableFault.DoseNotADecimal line d.bytes) (number_from TableFault.GramsNotADecimal line g.bytes) (named_of line c.bytes) c.bytes)
+    (reading_from (number_from TableFault.DoseNotADecimal line d.bytes) (number_from TableFault.GramsNotADecimal line g.bytes) (named_of (bytes_of line c.bytes)) c.bytes)
     (Err TableFault.NotThreeFields))
 
 -- The line that begins at `at` and ends with the list. `blank`: nothing but spaces, or a comment, which begins with `#`.

@@ -1,12 +1,11 @@
 -- A table of readings, line by line. Lines end with a newline; a line that is blank, or whose first sign is `#`, is skipped. The first other line may be a header. A byte order mark before
 -- the first line is passed over.
 -- The definition says what the lists hold in every case: on a fault they hold what was entered before it, and nothing further is written.
-use Rattle.std.specs.Prelude.{ℕ, zero, suc, ◌+◌, ◌-◌, ◌≤◌, Bool, false, not, ◌&&◌, ◌||◌, cond, List, [], ◌∷◌, ◌==◌, nat_le, nat_lt, length, take, slice_set, position, Float, Option, Some, None, Result, Ok, Err}
+use Rattle.std.specs.Prelude.{ℕ, zero, suc, ◌+◌, ◌≤◌, Bool, false, not, ◌&&◌, ◌||◌, cond, List, [], ◌∷◌, ◌==◌, nat_le, nat_lt, length, take, slice_set, position, Float, Option, Some, None, Result, Ok, Err}
 use Rattle.std.specs.Str.{bytes_eq}
-use Rattle.math.specs.Parts.{part}
 use Rattle.text_buffer.specs.declared.Span.{Span}
 use Rattle.read_table.specs.Classes.{scan_of}
-use Rattle.read_table.specs.Row.{row_of}
+use Rattle.read_table.specs.Row.{bytes_of, row_of}
 use Rattle.read_table.specs.declared.classes.Stop.{Stop}
 use Rattle.read_table.specs.declared.fault.TableFault.{TableFault}
 use Rattle.read_table.specs.declared.row.Reading.{Reading}
@@ -40,13 +39,11 @@ pub record InBounds (l : Lists) : Type 0 where
   pub in_names : l.table.canisters ≤ length l.names
 
 -- the bytes of a canister that was seen are those of a name
-unfoldable pub same_name : List ℕ → Span → Span → Bool
-same_name text name seen =
-    nat_le seen.start seen.stop && nat_le seen.stop (length text)
-    && bytes_eq (part seen.start (seen.stop - seen.start) text) (part name.start (name.stop - name.start) text)
+unfoldable pub same_name : List ℕ → List ℕ → Span → Bool
+same_name text name seen = nat_le seen.start seen.stop && nat_le seen.stop (length text) && bytes_eq (bytes_of text seen) name
 
 -- the first canister that has a name
-unfoldable pub find_of : List ℕ → List Span → Span → Option ℕ
+unfoldable pub find_of : List ℕ → List Span → List ℕ → Option ℕ
 find_of text seen name = position (same_name text name) seen
 
 -- the canister of a name: one that was seen, or a new one, whose name is put down where there is room
@@ -58,7 +55,7 @@ group_from None name t names =
     (Err TableFault.TooManyCanisters, t, names)
 
 unfoldable pub group_of : List ℕ → Span → Table → List Span → Result ℕ TableFault × Table × List Span
-group_of text name t names = group_from (find_of text (take t.canisters names) name) name t names
+group_of text name t names = group_from (find_of text (take t.canisters names) (bytes_of text name)) name t names
 
 abbrev pub entered_from : Reading → Lists → Result ℕ TableFault × Table × List Span → Step Lists
 entered_from reading l (Err e, t, names) = (Err e, lists t l.doses l.grams l.groups names)

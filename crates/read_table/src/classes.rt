@@ -15,7 +15,7 @@ fn is_separator(b: u8) -> bool
     b == b',' || b == b';' || b == b'\t'
 }
 
-fn is_name_byte(b: u8) -> bool
+pub fn is_name_byte(b: u8) -> bool
     ensures { result ≡ is_name_byte b }
 {
     b.is_ascii_alphanumeric() || b == b'-' || b == b'.' || b == b'_' || b >= 128
@@ -32,7 +32,6 @@ pub enum Stop {
     Letter,
     EndOfSpaces,
     EndOfWord,
-    EndOfName,
     EndOfLetters,
 }
 
@@ -49,7 +48,6 @@ impl Stop {
             Stop::Letter => b.is_ascii_alphabetic(),
             Stop::EndOfSpaces => !is_space(b),
             Stop::EndOfWord => is_space(b) || is_separator(b),
-            Stop::EndOfName => !is_name_byte(b),
             Stop::EndOfLetters => !b.is_ascii_alphabetic(),
         }
     }
@@ -79,9 +77,8 @@ fn bytes_before(text: &[u8], at: usize, stop: Stop) -> usize
 // The first place from `at` on where such a byte stands, or the end.
 #[tactic(auto, unfolding(crate::specs::Classes::scan_of))]
 pub fn scan(text: &[u8], at: usize, stop: Stop) -> usize
-    requires { at ≤ length text.now }
     ensures value { result ≡ scan_of stop text.now at }
-    ensures lower_bound { (at ≤ result) × (result ≤ length text.now) }
+    ensures lower_bound { (at ≤ result) × (at ≤ length text.now → result ≤ length text.now) }
 {
     at + bytes_before(text, at, stop)
 }

@@ -4,7 +4,7 @@ ghost use Rattle.read_table.specs.Faults.{number_of};
 
 #[derive(Clone, Copy, Debug, PartialEq, Eq)]
 pub enum TableFault {
-    NotThreeFields,
+    NotThreeFields = 1,
     DoseNotADecimal,
     GramsNotADecimal,
     TooManyDigits,
@@ -22,18 +22,6 @@ impl TableFault {
     pub fn number(self) -> u64
         ensures { result ≡ number_of self }
     {
-        match self {
-            TableFault::NotThreeFields => 1,
-            TableFault::DoseNotADecimal => 2,
-            TableFault::GramsNotADecimal => 3,
-            TableFault::TooManyDigits => 4,
-            TableFault::PowerOutOfRange => 5,
-            TableFault::NotAName => 6,
-            TableFault::TooManyReadings => 7,
-            TableFault::TooManyCanisters => 8,
-            TableFault::NoReadings => 9,
-            TableFault::DecimalComma => 10,
-            TableFault::HeaderOutOfOrder => 11,
-        }
+        self as u64
     }
 }

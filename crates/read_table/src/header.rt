@@ -1,8 +1,9 @@
 // A header: which column each of its names means.
-ghost use Rattle.std.specs.Prelude.{◌≡◌, ◌≤◌, length};
+ghost use Rattle.std.specs.Prelude.{◌≡◌};
 ghost use Rattle.read_table.specs.Header.{is_word_of, column_of, fits_column, in_order};
 
 use crate::classes::{Stop, scan};
+use text_buffer::Span;
 use text_lines::same::is_among;
 
 #[derive(Clone, Copy, Debug, PartialEq, Eq)]
@@ -32,19 +33,18 @@ impl Column {
 }
 
 // The column that a field's first letters name, where they are a known word.
-#[tactic(auto, unfolding(crate::specs::Header::column_of))]
+#[tactic(auto, using(crate::proofs::Spans::part_is_slice), unfolding(crate::specs::Header::column_of))]
 fn column_of(line: &[u8], start: usize) -> Option<Column>
-    requires { start ≤ length line.now }
     ensures { result ≡ column_of line.now start }
 {
-    let letters = &line[start..scan(line, start, Stop::EndOfLetters)];
+    let stop = scan(line, start, Stop::EndOfLetters);
+    let letters = Span { start, stop }.of(line);
     COLUMNS.iter().copied().find(|column| column.has(letters))
 }
 
 // Whether a field names this column, or none.
 #[tactic(auto, unfolding(crate::specs::Header::fits_column))]
 fn fits(line: &[u8], start: usize, column: Column) -> bool
-    requires { start ≤ length line.now }
     ensures { result ≡ fits_column line.now start column }
 {
     match column_of(line, start) {
@@ -56,7 +56,6 @@ fn fits(line: &[u8], start: usize, column: Column) -> bool
 // Whether no field of a header names another column than its own.
 #[tactic(auto, unfolding(crate::specs::Header::in_order))]
 pub fn in_order(line: &[u8], dose: usize, grams: usize, canister: usize) -> bool
-    requires { (dose ≤ length line.now) × (grams ≤ length line.now) × (canister ≤ length line.now) }
     ensures { result ≡ in_order line.now dose grams canister }
 {
     fits(line, dose, Column::Dose)

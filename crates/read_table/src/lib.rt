@@ -66,6 +66,7 @@ pub fn read_table(
             canisters: 0,
         },
     };
+    // By place: how far a line goes is known once it is read.
     while p.at < text.len() {
         if let Err(fault) = next_line(text, &mut p, doses, grams, groups, names) {
             return Err(TableError {

@@ -1,8 +1,11 @@
 // One line: its three fields, and what they say.
 ghost use Rattle.std.specs.Prelude.{◌≡◌, ◌≤◌, ◌<◌, ◌+◌, IfSome, IfOk, length};
-ghost use Rattle.read_table.specs.Row.{closing_of, word_of, next_of, field_of, named_of, comma_in, decimal_comma, told_of, number_from, reading_of, row_of};
+ghost use Rattle.std.specs.List.{list_all};
+ghost use Rattle.read_table.specs.Classes.{is_name_byte};
+ghost use Rattle.read_decimal.specs.Decimal.{decimal_of};
+ghost use Rattle.read_table.specs.Row.{closing_of, word_of, next_of, field_of, named_of, comma_in, decimal_comma, told_of, told_number, number_from, reading_of, row_of};
 
-use crate::classes::{Stop, met, scan};
+use crate::classes::{Stop, is_name_byte, met, scan};
 use crate::fault::TableFault;
 use crate::header::in_order;
 use read_decimal::{DecimalError, read_decimal};
@@ -32,7 +35,7 @@ pub struct Reading {
 }
 
 // What a line says. `letters`: its first two fields begin with letters, as a header's do; `ordered`: as a header, it names no
-// column in another's place.
+// column in another's place. Flags and no enum: a line of letters is a header only where all before it was blank.
 #[derive(Clone, Copy)]
 pub struct Row {
     pub blank: bool,
@@ -44,7 +47,6 @@ pub struct Row {
 // Where the quotes close that open at `at`.
 #[tactic(auto, unfolding(crate::specs::Row::closing_of))]
 fn closing(line: &[u8], at: usize) -> Option<usize>
-    requires { at ≤ length line.now }
     ensures value { result ≡ closing_of line.now at }
     ensures upper_bound { IfSome result (λ close. (at + 1 ≤ close) × (close < length line.now)) }
 {
@@ -59,9 +61,8 @@ fn closing(line: &[u8], at: usize) -> Option<usize>
 
 #[tactic(auto, unfolding(crate::specs::Row::word_of))]
 fn read_word(line: &[u8], at: usize) -> Word
-    requires { at ≤ length line.now }
     ensures value { result ≡ word_of line.now at }
-    ensures start_le_stop { (result.bytes.start ≤ result.bytes.stop) × (result.bytes.stop ≤ length line.now) × (result.tail ≤ length line.now) }
+    ensures inside { at ≤ length line.now → (result.bytes.start ≤ result.bytes.stop) × (result.bytes.stop ≤ length line.now) × (result.tail ≤ length line.now) }
 {
     match closing(line, at) {
         Some(close) => Word {
@@ -84,9 +85,8 @@ fn read_word(line: &[u8], at: usize) -> Word
 // The place of the next field, past a separator.
 #[tactic(auto, unfolding(crate::specs::Row::next_of))]
 fn next_field(line: &[u8], after: usize) -> usize
-    requires { after ≤ length line.now }
     ensures value { result ≡ next_of line.now after }
-    ensures upper_bound { result ≤ length line.now }
+    ensures inside { after ≤ length line.now → result ≤ length line.now }
 {
     if met(line, after, Stop::Separator) {
         scan(line, after + 1, Stop::EndOfSpaces)
@@ -97,9 +97,8 @@ fn next_field(line: &[u8], after: usize) -> usize
 
 #[tactic(auto, unfolding(crate::specs::Row::field_of))]
 fn read_field(line: &[u8], at: usize) -> Field
-    requires { at ≤ length line.now }
     ensures value { result ≡ field_of line.now at }
-    ensures start_le_stop { (result.bytes.start ≤ result.bytes.stop) × (result.bytes.stop ≤ length line.now) × (result.next ≤ length line.now) }
+    ensures inside { at ≤ length line.now → (result.bytes.start ≤ result.bytes.stop) × (result.bytes.stop ≤ length line.now) × (result.next ≤ length line.now) }
 {
     let word = read_word(line, at);
     let after = scan(line, word.tail, Stop::EndOfSpaces);
@@ -110,15 +109,18 @@ fn read_field(line: &[u8], at: usize) -> Field
     }
 }
 
+fn are_name_bytes(bytes: &[u8]) -> bool
+    ensures { result ≡ list_all is_name_byte bytes.now }
+{
+    bytes.iter().all(|b| is_name_byte(*b))
+}
+
 // Whether the bytes are a name: 1 to 32 of them, each one that a name may have.
 #[tactic(auto, unfolding(crate::specs::Row::named_of))]
-fn named(line: &[u8], name: Span) -> bool
-    requires { (name.start ≤ name.stop) × (name.stop ≤ length line.now) }
-    ensures { result ≡ named_of line.now name }
+fn named(name: &[u8]) -> bool
+    ensures { result ≡ named_of name.now }
 {
-    name.start < name.stop
-        && name.stop - name.start <= 32
-        && name.stop <= scan(line, name.start, Stop::EndOfName)
+    !name.is_empty() && name.len() <= 32 && are_name_bytes(name)
 }
 
 // The fault of a number; `no_decimal` is the one of a field that is none.
@@ -132,40 +134,34 @@ fn told(error: DecimalError, no_decimal: TableFault) -> TableFault
     }
 }
 
-fn read_number(line: &[u8], field: Span, no_decimal: TableFault) -> Result<f64, TableFault>
-    requires { (field.start ≤ field.stop) × (field.stop ≤ length line.now) }
-    ensures { result ≡ number_from no_decimal line.now field }
+fn read_number(field: &[u8], no_decimal: TableFault) -> Result<f64, TableFault>
+    ensures { result ≡ told_number no_decimal (decimal_of field.now) }
 {
-    read_decimal(&line[field.start..field.stop]).map_err(|error| told(error, no_decimal))
+    read_decimal(field).map_err(|error| told(error, no_decimal))
 }
 
 // Whether a field's bytes hold a comma.
 #[tactic(auto, unfolding(crate::specs::Row::comma_in))]
-fn comma_in(line: &[u8], field: Span) -> bool
-    requires { field.start ≤ length line.now }
-    ensures { result ≡ comma_in line.now field }
+fn comma_in(field: &[u8]) -> bool
+    ensures { result ≡ comma_in field.now }
 {
-    scan(line, field.start, Stop::Comma) < field.stop
+    field.contains(&b',')
 }
 
 // Whether a comma stands inside a number, or separates on one side of the grams and not on the other.
-#[tactic(auto, unfolding(crate::specs::Row::decimal_comma))]
+#[tactic(auto, using(crate::proofs::Spans::part_is_slice), unfolding(crate::specs::Row::decimal_comma))]
 fn decimal_comma(line: &[u8], d: Field, g: Field) -> bool
-    requires { (d.bytes.start ≤ length line.now) × (g.bytes.start ≤ length line.now) }
     ensures { result ≡ decimal_comma line.now d g }
 {
-    comma_in(line, d.bytes)
-        || comma_in(line, g.bytes)
+    comma_in(d.bytes.of(line))
+        || comma_in(g.bytes.of(line))
         || (g.next < line.len()
             && met(line, d.after, Stop::Comma) != met(line, g.after, Stop::Comma))
 }
 
 // What three fields say.
-#[tactic(auto, unfolding(crate::specs::Row::reading_of))]
+#[tactic(auto, using(crate::proofs::Spans::part_is_slice), unfolding(crate::specs::Row::reading_of))]
 fn read_reading(line: &[u8], d: Field, g: Field, c: Field) -> Result<Reading, TableFault>
-    requires dose { (d.bytes.start ≤ d.bytes.stop) × (d.bytes.stop ≤ length line.now) }
-    requires grams { (g.bytes.start ≤ g.bytes.stop) × (g.bytes.stop ≤ length line.now) }
-    requires canister { (c.bytes.start ≤ c.bytes.stop) × (c.bytes.stop ≤ length line.now) }
     ensures value { result ≡ reading_of line.now d g c }
     ensures name { IfOk result (λ r. r.name ≡ c.bytes) }
 {
@@ -176,9 +172,9 @@ fn read_reading(line: &[u8], d: Field, g: Field, c: Field) -> Result<Reading, Ta
     if !three {
         return Err(TableFault::NotThreeFields);
     }
-    let dose = read_number(line, d.bytes, TableFault::DoseNotADecimal)?;
-    let grams = read_number(line, g.bytes, TableFault::GramsNotADecimal)?;
-    if !named(line, c.bytes) {
+    let dose = read_number(d.bytes.of(line), TableFault::DoseNotADecimal)?;
+    let grams = read_number(g.bytes.of(line), TableFault::GramsNotADecimal)?;
+    if !named(c.bytes.of(line)) {
         return Err(TableFault::NotAName);
     }
     Ok(Reading {
@@ -191,9 +187,8 @@ fn read_reading(line: &[u8], d: Field, g: Field, c: Field) -> Result<Reading, Ta
 // The line ends with `line`; it begins at `at`.
 #[tactic(auto, unfolding(crate::specs::Row::row_of))]
 pub fn read_row(line: &[u8], at: usize) -> Row
-    requires { at ≤ length line.now }
     ensures value { result ≡ row_of line.now at }
-    ensures start_le_stop { IfOk result.reading (λ r. (r.name.start ≤ r.name.stop) × (r.name.stop ≤ length line.now)) }
+    ensures start_le_stop { at ≤ length line.now → IfOk result.reading (λ r. (r.name.start ≤ r.name.stop) × (r.name.stop ≤ length line.now)) }
 {
     let first = scan(line, at, Stop::EndOfSpaces);
     let d = read_field(line, first);

@@ -1,5 +1,5 @@
 // One line after the other: what a line says, and what it changes.
-ghost use Rattle.std.specs.Prelude.{◌≡◌, ◌≤◌, ◌<◌, IfOk, IfSome, length};
+ghost use Rattle.std.specs.Prelude.{◌≡◌, ◌≤◌, ◌<◌, length};
 ghost use Rattle.read_table.specs.Table.{settled_of, lists, state, step_of, InBounds};
 
 use crate::Table;
@@ -20,8 +20,7 @@ pub struct Progress {
 // A header is skipped where no line before it was more than blank.
 #[tactic(auto, unfolding(crate::specs::Table::settled_of))]
 fn settled(row: Row, started: bool) -> Result<Option<Reading>, TableFault>
-    ensures value { result ≡ settled_of row started }
-    ensures reading { IfOk result (λ said. IfSome said (λ r. row.reading ≡ Ok r)) }
+    ensures { result ≡ settled_of row started }
 {
     if row.blank {
         return Ok(None);

@@ -4,14 +4,14 @@ use Rattle.std.specs.Float.{nan, inf, binary64}
 use Rattle.std.specs.Float.Ieee.{of_int}
 use Rattle.math.specs.Basic.{add, sub, mul, div, bits, min_of, max_of, is_finite}
 use Rattle.math.specs.Loops.{iter}
-use Rattle.curves.specs.MeanFn.{eval_with_re_of}
+use Rattle.curves.specs.MeanFn.{four_of, eval_with_re_of}
 use Rattle.svg_axes.specs.declared.ranges.Range.{Range}
 use Rattle.svg_axes.specs.Subject.{Shown}
 
 -- the grams of the curve of canister g at a dose: its effect is added to the value at `place`
 unfoldable pub curve_at : Shown → ℕ → Float → Float
 curve_at s g dose =
-    (eval_with_re_of s.code (slice_index_or s.values 0 nan ∷ slice_index_or s.values 1 nan ∷ slice_index_or s.values 2 nan ∷ slice_index_or s.values 3 nan ∷ []) (s.place ∷ []) (slice_index_or s.effects g nan ∷ []) dose).mu
+    (eval_with_re_of s.code (four_of s.values) (s.place ∷ []) (slice_index_or s.effects g nan ∷ []) dose).mu
 
 -- the range of no number
 abbrev pub no_range : Range

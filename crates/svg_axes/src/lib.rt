@@ -11,21 +11,16 @@ ghost use Rattle.svg_axes.specs.Subject.{shown};
 ghost use Rattle.svg_axes.specs.Ranges.{curve_at};
 
 use crate::subject::Subject;
+use curves::mean_fn::four;
 
 // What the curve of canister g says at a dose.
 #[tactic(auto, unfolding(crate::specs::Ranges::curve_at))]
 pub fn curve_at(s: &Subject<'_>, g: usize, dose: f64) -> f64
     ensures { result ≡ curve_at (shown s.now) g dose }
 {
-    let params = [
-        math::at(s.values, 0),
-        math::at(s.values, 1),
-        math::at(s.values, 2),
-        math::at(s.values, 3),
-    ];
     let offsets = [math::at(s.effects, g)];
     let mean = s
         .curve
-        .eval_mean_with_re(dose, params, &[s.place], &offsets);
+        .eval_mean_with_re(dose, four(s.values), &[s.place], &offsets);
     mean.mu
 }

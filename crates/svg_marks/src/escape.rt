@@ -21,7 +21,7 @@ fn byte(out: &mut Text<'_>, b: u8)
     }
 }
 
-#[tactic(auto, using(text_buffer::specs::laws::Text::wrote_none, crate::proofs::Laws::of_next))]
+#[tactic(auto, using(std::proofs::lemmas::Grind::common_steps, text_buffer::specs::laws::Text::writing))]
 pub fn escaped(out: &mut Text<'_>, text: &[u8])
     ensures { out.new ≡ wrote out.old (flat_map escaped_byte text.now) }
 {

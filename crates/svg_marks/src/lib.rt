@@ -12,6 +12,9 @@ use text_buffer::Text;
 use text_floats::fixed;
 use text_lines::words::word;
 
+// How far below the middle of what a text stands beside its letters stand.
+pub const BASELINE: f64 = 4.0;
+
 // A text and then a number with one decimal.
 #[tactic(auto, using(text_buffer::specs::laws::Text::writing))]
 pub fn number(out: &mut Text<'_>, before: &[u8], x: f64)
@@ -29,7 +32,7 @@ const COLOURS: [&[u8]; 8] = [
 pub fn colour(out: &mut Text<'_>, g: usize)
     ensures { out.new ≡ wrote out.old (colour_text g) }
 {
-    word(out, &COLOURS, g % 8);
+    word(out, &COLOURS, g % COLOURS.len());
 }
 
 // A circle, a square, a triangle, a diamond, a triangle on its point.
@@ -45,7 +48,11 @@ const SHAPES: [&[u8]; 5] = [
 fn path(out: &mut Text<'_>, g: usize)
     ensures { out.new ≡ wrote out.old (path_text g) }
 {
-    word(out, &SHAPES, (g % 8 + g / 8 * 4) % 5);
+    word(
+        out,
+        &SHAPES,
+        (g % COLOURS.len() + g / COLOURS.len() * 4) % SHAPES.len(),
+    );
 }
 
 // What follows a path's first point.

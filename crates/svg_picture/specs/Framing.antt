@@ -1,5 +1,5 @@
 -- The text of the frame: the title, the axes and what stands at them.
-use Rattle.std.specs.Prelude.{ℕ, ◌+◌, Bool, true, false, cond, List, [], ◌∷◌, ◌++◌, pos, get_or, Float, codes}
+use Rattle.std.specs.Prelude.{ℕ, ◌+◌, Bool, true, false, cond, List, [], ◌∷◌, ◌++◌, pos, Float, codes}
 use Rattle.std.specs.Float.{binary64}
 use Rattle.std.specs.Float.Ieee.{of_int}
 use Rattle.math.specs.Basic.{add, mul, bits}
@@ -8,6 +8,7 @@ use Rattle.text_floats.specs.Floats.{fixed_text}
 use Rattle.svg_axes.specs.declared.axes.Axis.{Axis}
 use Rattle.svg_axes.specs.declared.frame.Frame.{Frame}
 use Rattle.svg_axes.specs.Axes.{x_pixel, y_pixel}
+use Rattle.svg_axes.specs.Subject.{curve_name}
 use Rattle.svg_marks.specs.Marks.{number_text}
 use Rattle.svg_marks.specs.Escape.{each}
 
@@ -35,10 +36,6 @@ unfoldable pub ticks_text : Axis → Bool → List ℕ
 ticks_text a across = each (tick_text a across) (a.count + 1)
 
 -- ---- the frame: the title, the axes and what stands at them, and what that is in the example
-
--- by the curve's code, from 1
-abbrev pub curve_name : ℕ → List ℕ
-curve_name code = get_or ([] ∷ codes "SSlogis" ∷ codes "SSasymp" ∷ codes "SSmicmen" ∷ codes "SSfpl" ∷ []) code []
 
 unfoldable pub title_text : ℕ → List ℕ → List ℕ
 title_text code said =

@@ -2,12 +2,13 @@
 ghost use Rattle.std.specs.Prelude.{◌≡◌};
 ghost use Rattle.curves.specs.MeanFn.{code_of};
 ghost use Rattle.text_buffer.specs.Text.{wrote};
-ghost use Rattle.svg_picture.specs.Framing.{grid_text, tick_text, ticks_text, curve_name, title_text, axes_text, noted, labels_text, framing_text};
+ghost use Rattle.svg_picture.specs.Framing.{grid_text, tick_text, ticks_text, title_text, axes_text, noted, labels_text, framing_text};
 
 use curves::Curve;
 use svg_axes::axes::{Axis, x_pixel, y_pixel};
 use svg_axes::frame::Frame;
-use svg_marks::number;
+use svg_axes::subject::curve_name;
+use svg_marks::{BASELINE, number};
 use text_buffer::Text;
 use text_floats::fixed;
 
@@ -29,7 +30,7 @@ fn grid(out: &mut Text<'_>, a: Axis, across: bool, v: f64)
         number(
             out,
             b"H670\"/><text text-anchor=\"end\" x=\"62\" y=\"",
-            y + 4.0,
+            y + BASELINE,
         );
     }
 }
@@ -61,17 +62,6 @@ fn axes(out: &mut Text<'_>, f: &Frame)
     out.put(b"<path stroke=\"#222222\" d=\"M70 450H670\"/>\n");
     ticks(out, f.y, false);
     out.put(b"<path stroke=\"#222222\" d=\"M70 50V450\"/>\n");
-}
-
-fn curve_name(curve: Curve) -> &'static [u8]
-    ensures { result.now ≡ curve_name (code_of curve) }
-{
-    match curve {
-        Curve::Sslogis => b"SSlogis",
-        Curve::Ssasymp => b"SSasymp",
-        Curve::Ssmicmen => b"SSmicmen",
-        Curve::Ssfpl => b"SSfpl",
-    }
 }
 
 // The curve's name, and then what is shown, or why it is not to be used.

@@ -26,6 +26,7 @@ fn canister(out: &mut Text<'_>, s: &Subject<'_>, f: &Frame, g: usize)
     legend(out, s, g);
 }
 
+// A loop of its own, as other texts over a count have one: one for all would take a closure, and what it writes as a ghost value.
 #[tactic(auto, using(svg_marks::proofs::Laws::running))]
 fn canisters(out: &mut Text<'_>, s: &Subject<'_>, f: &Frame)
     ensures { out.new ≡ wrote out.old (each (canister_text (shown s.now) f.now) (length s.now.effects.now)) }
@@ -47,7 +48,7 @@ fn drawn(out: &mut Text<'_>, s: &Subject<'_>, f: &Frame, example: bool, said: &[
 }
 
 // The whole picture, with what its title says after the curve's name; nothing is written where the readings span no range
-// that can be drawn.
+// that can be drawn. `example` is no part of the subject, by which nothing but the labels goes.
 #[tactic(auto, using(text_buffer::specs::laws::Text::writing), unfolding(crate::specs::Picture::picture_text))]
 pub fn draw(out: &mut Text<'_>, s: &Subject<'_>, example: bool, said: &[u8])
     ensures { out.new ≡ wrote out.old (picture_text (shown s.now) example said.now) }

@@ -1,14 +1,12 @@
 -- The text of a canister: its curve, its readings and its row of the legend.
-use Rattle.std.specs.Prelude.{ℕ, cond, List, [], ◌∷◌, ◌++◌, length, pos, ◌==◌, nat_lt, slice_get, slice_index, slice_index_or, Float, Option, Some, None, codes}
+use Rattle.std.specs.Prelude.{ℕ, cond, List, [], ◌∷◌, ◌++◌, length, pos, ◌==◌, nat_lt, slice_index, slice_index_or, Float, codes}
 use Rattle.std.specs.List.{flat_map}
 use Rattle.std.specs.Float.{nan, binary64}
 use Rattle.std.specs.Float.Ieee.{of_int}
-use Rattle.std.proofs.Math.Seq.{slice}
 use Rattle.math.specs.Basic.{add, mul, bits, is_finite}
-use Rattle.text_buffer.specs.declared.Span.{Span}
 use Rattle.text_buffer.specs.Text.{joined}
 use Rattle.svg_axes.specs.declared.frame.Frame.{Frame}
-use Rattle.svg_axes.specs.Subject.{Shown}
+use Rattle.svg_axes.specs.Subject.{Shown, name_of}
 use Rattle.svg_axes.specs.Ranges.{curve_at, sample_of}
 use Rattle.svg_axes.specs.Axes.{x_pixel, y_pixel}
 use Rattle.svg_marks.specs.Marks.{number_text, colour_text, shape_text}
@@ -40,13 +38,9 @@ unfoldable pub readings_text : Shown → Frame → ℕ → List ℕ
 readings_text s f g =
     joined (codes "\"/>\n<g stroke=\"white\" stroke-width=\"0.7\" fill=\"" ∷ colour_text g ∷ codes "\">\n" ∷ marks_text s f g ∷ [])
 
--- a canister's name stands in the table's text
-abbrev pub named : List ℕ → Option Span → List ℕ
-named text (Some span) = flat_map escaped_byte (slice span.start span.stop text)
-named text None = codes "?"
-
+-- the names of 32 canisters stand in the table's text
 unfoldable pub name_text : Shown → ℕ → List ℕ
-name_text s g = named s.text (slice_get s.names g)
+name_text s g = cond (nat_lt g 32) (flat_map escaped_byte (name_of s g)) (codes "?")
 
 -- rows of 14 from 60 on
 unfoldable pub legend_y : ℕ → Float

@@ -6,16 +6,22 @@ ghost use Rattle.svg_series.specs.Canister.{name_text, legend_y, line_text, key_
 
 use svg_axes::subject::Subject;
 use svg_marks::escape::escaped;
-use svg_marks::{colour, number, shape};
+use svg_marks::{BASELINE, colour, number, shape};
 use text_buffer::Text;
+
+// A row for each of the canisters that a refit takes; all others would stand in the first one.
+const ROWS: usize = 32;
+const FIRST_ROW: f64 = 60.0;
+const ROW_HEIGHT: f64 = 14.0;
 
 #[tactic(auto, unfolding(crate::specs::Canister::name_text))]
 fn name(out: &mut Text<'_>, s: &Subject<'_>, g: usize)
     ensures { out.new ≡ wrote out.old (name_text (shown s.now) g) }
 {
-    match s.names.get(g) {
-        Some(span) => escaped(out, span.of(s.text)),
-        None => out.put(b"?"),
+    if g < ROWS {
+        escaped(out, s.name(g));
+    } else {
+        out.put(b"?");
     }
 }
 
@@ -23,10 +29,10 @@ fn name(out: &mut Text<'_>, s: &Subject<'_>, g: usize)
 fn row_y(g: usize) -> f64
     ensures { result ≡ legend_y g }
 {
-    if g < 32 {
-        60.0 + 14.0 * std::num::nearest_u64_to_f64(g as u64)
+    if g < ROWS {
+        FIRST_ROW + ROW_HEIGHT * std::num::nearest_u64_to_f64(g as u64)
     } else {
-        60.0
+        FIRST_ROW
     }
 }
 
@@ -64,5 +70,5 @@ pub fn legend(out: &mut Text<'_>, s: &Subject<'_>, g: usize)
 {
     let y = row_y(g);
     key(out, g, y);
-    label(out, s, g, y + 4.0);
+    label(out, s, g, y + BASELINE);
 }

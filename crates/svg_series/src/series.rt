@@ -8,7 +8,7 @@ ghost use Rattle.svg_series.specs.Canister.{point_text, vertex_text, curve_text,
 use svg_axes::axes::{x_pixel, y_pixel};
 use svg_axes::curve_at;
 use svg_axes::frame::Frame;
-use svg_axes::ranges::sample;
+use svg_axes::ranges::{SAMPLES, sample};
 use svg_axes::subject::Subject;
 use svg_marks::{colour, number, shape};
 use text_buffer::Text;
@@ -38,7 +38,7 @@ fn vertex(out: &mut Text<'_>, s: &Subject<'_>, f: &Frame, g: usize, j: u64)
 fn vertices(out: &mut Text<'_>, s: &Subject<'_>, f: &Frame, g: usize)
     ensures { out.new ≡ wrote out.old (each (vertex_text (shown s.now) f.now g) 61) }
 {
-    for j in 0..61 {
+    for j in 0..SAMPLES {
         vertex(out, s, f, g, j);
     }
 }
@@ -67,6 +67,7 @@ fn reading(out: &mut Text<'_>, f: &Frame, g: usize, of: usize, dose: f64, grams:
 fn marks(out: &mut Text<'_>, s: &Subject<'_>, f: &Frame, g: usize)
     ensures { out.new ≡ wrote out.old (marks_text (shown s.now) f.now g) }
 {
+    // By place and not zipped: a dose or grams that a shorter list lacks counts as NaN.
     for (i, &of) in s.group.iter().enumerate() {
         reading(out, f, g, of, math::at(s.doses, i), math::at(s.grams, i));
     }

@@ -69,6 +69,7 @@ impl<'a> Text<'a> {
     }
 
     // As much of the text as fits.
+    #[tactic(auto, unfolding(crate::specs::Text::wrote))]
     pub fn put(&mut self, text: &[u8])
         ensures { self.new ≡ wrote self.old text.now }
     {

@@ -24,6 +24,7 @@ fn shifted(x: f64, d: u64) -> f64
 }
 
 // The whole number nearest to m, half way up; 0 where m is below 0 or not below 2^64.
+#[tactic(auto, using(crate::proofs::NearestLaws::is_between, crate::proofs::NearestLaws::is_low, crate::proofs::NearestLaws::is_high))]
 pub fn nearest(m: f64) -> u64
     ensures { result ≡ nearest_whole m }
 {

@@ -1,7 +1,5 @@
 -- What the loops that write spaces and a template need.
-use Rattle.std.proofs.Common.{◌≡◌, ℕ, suc, ◌+◌, ◌-◌, ◌<◌, ◌≤◌, false, List, [], ◌∷◌, length, get_or, map, Float, arith}
-use Rattle.std.proofs.lemmas.Grind.{common_steps}
-use Rattle.std.specs.Borrow.{Bor}
+use Rattle.std.proofs.Common.{◌≡◌, ℕ, suc, ◌+◌, ◌-◌, ◌<◌, ◌≤◌, false, List, [], ◌∷◌, length, Float, arith}
 use borrow.Author.Tests.{eq-eqb, ne_eqb}
 use Rattle.text_buffer.specs.Text.{Written, wrote}
 use Rattle.text_buffer.specs.laws.Text.{wrote_none, wrote_then}
@@ -18,12 +16,6 @@ spaces_next t w i h =
     rw e (wrote_then t (32 ∷ []) (spaces (w - (i + 1))))
 
 pub ruleset padding = (spaces_none, spaces_next)
-
--- no word past the last
-pub word_none : (t : Written) (k : ℕ) (words : List (Bor (List ℕ))) → length words ≤ k → wrote t (get_or (map (λ w. w.now) words) k []) ≡ t
-word_none t k words h =
-    let e : get_or (map (λ (w : Bor (List ℕ)). w.now) words) k [] ≡ [] = grind (arith, common_steps) in
-    rw e (wrote_none t)
 
 -- a template from a byte on
 module _ (w : Written) (ns : List ℕ) (xs : List Float) where

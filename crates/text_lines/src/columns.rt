@@ -32,12 +32,15 @@ pub fn left(out: &mut Text<'_>, width: usize, text: &[u8])
     pad(out, width, text.len());
 }
 
-// A number at the right of the width; its text has a room of 64 bytes.
+// A number's text is written into a room first, as its length is known only then; it is fixed, as there is no heap.
+const ROOM: usize = 64;
+
+// A number at the right of the width.
 #[tactic(auto, using(text_buffer::specs::laws::Text::held))]
 pub fn fixed(out: &mut Text<'_>, width: usize, x: f64, decimals: u64)
     ensures { out.new ≡ wrote out.old (cell_text width (fixed_text x decimals)) }
 {
-    let mut room = [0; 64];
+    let mut room = [0; ROOM];
     let mut text = Text::new(&mut room);
     text_floats::fixed(&mut text, x, decimals);
     right(out, width, text.written());
@@ -47,7 +50,7 @@ pub fn fixed(out: &mut Text<'_>, width: usize, x: f64, decimals: u64)
 pub fn figure(out: &mut Text<'_>, width: usize, x: f64)
     ensures { out.new ≡ wrote out.old (cell_text width (figure_text x)) }
 {
-    let mut room = [0; 64];
+    let mut room = [0; ROOM];
     let mut text = Text::new(&mut room);
     text_floats::figure(&mut text, x);
     right(out, width, text.written());

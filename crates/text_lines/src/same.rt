@@ -12,13 +12,13 @@ pub fn same_word(a: &[u8], b: &[u8]) -> bool
 pub fn is_among(words: &[&[u8]], word: &[u8]) -> bool
     ensures { result ≡ list_any (λ w. str_eq_ignore_ascii_case w.now word.now) words.now }
 {
-    words.iter().any(|w| same_word(w, word))
+    words.iter().any(|w| w.eq_ignore_ascii_case(word))
 }
 
 fn place_among(words: &[&[u8]], word: &[u8]) -> Option<usize>
     ensures { result ≡ position (λ w. str_eq_ignore_ascii_case w.now word.now) words.now }
 {
-    words.iter().position(|w| same_word(w, word))
+    words.iter().position(|w| w.eq_ignore_ascii_case(word))
 }
 
 // The place of the first of the words that is this one.

@@ -64,6 +64,7 @@ pub fn fill(out: &mut Text<'_>, template: &[u8], wholes: &[u64], floats: &[f64])
     let mut wholes = wholes.iter();
     let mut floats = floats.iter();
     let mut bytes = template.iter();
+    // No `for`: a mark takes its second byte from the same iterator.
     while let Some(&b) = bytes.next() {
         if b != b'%' {
             out.byte(b);

@@ -6,7 +6,7 @@ ghost use Rattle.text_lines.specs.Lines.{word_of};
 use text_buffer::Text;
 
 // The word number k, from 0; nothing past the last.
-#[tactic(auto, using(crate::proofs::Lines::word_none), unfolding(crate::specs::Lines::word_of))]
+#[tactic(auto, using(std::proofs::lemmas::Grind::common_steps, text_buffer::specs::laws::Text::wrote_none), unfolding(crate::specs::Lines::word_of))]
 pub fn word(out: &mut Text<'_>, words: &[&[u8]], k: usize)
     ensures { out.new ≡ wrote out.old (word_of k (map (λ w. w.now) words.now)) }
 {

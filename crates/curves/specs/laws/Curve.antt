@@ -7,7 +7,7 @@ use Rattle.curves.specs.declared.Mean.{Mean}
 use Rattle.curves.specs.Sslogis.{sslogis_of}
 use Rattle.curves.specs.Ssasymp.{ssasymp_of}
 use Rattle.curves.specs.Ssmicmen.{micmen_of, overflow_of, ssmicmen_of}
-use Rattle.curves.specs.MeanFn.{eval_of}
+use Rattle.curves.specs.MeanFn.{four_of, eval_of}
 use Rattle.curves.specs.Curve.{curve_of}
 use Rattle.curves.specs.laws.Computes.{curve_computes}
 
@@ -32,3 +32,8 @@ past_ssasymp v x = refl
 pub past_ssmicmen : (v : List Float) (x : Float) → ((eval_of 3 v x).d2 ≡ zero) × ((eval_of 3 v x).d3 ≡ zero)
 unfolding eval_of ssmicmen_of micmen_of
 past_ssmicmen v x = both (overflow_of (get_or v 1 nan) x) _ _ (refl, refl) (refl, refl)
+
+-- ---- a curve reads four values at most
+pub eval_four : (code : ℕ) (v : List Float) (x : Float) → eval_of code (four_of v) x ≡ eval_of code v x
+unfolding eval_of
+eval_four code v x = refl

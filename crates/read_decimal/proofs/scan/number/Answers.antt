@@ -1,11 +1,8 @@
 -- A number that has reached the limit only grows. Assumes nothing.
-use Rattle.std.proofs.Common.{◌+◌, arith, add-one, drop, drop-cons, drop_of_length-le}
+use Rattle.std.proofs.Common.{◌+◌, arith, add-one, drop, drop-cons}
 use Rattle.read_decimal.specs.Scan.{value_from}
 use Rattle.read_decimal.proofs.NumberLaws.{capped_from}
 use Rattle.read_decimal.proofs.scan.number.Goals as goal
-
-pub loop-b-init : goal.loop-b-init
-loop-b-init c = (omega arith, rw c.min-m.ensures (capped_from c.args.n c.args.digits.now))
 
 pub loop-b-preserved : goal.loop-b-preserved
 unfolding value_from
@@ -13,7 +10,3 @@ loop-b-preserved c =
     let i = c.loop-b.b-index in
     let w = c.args.digits.now in
     (omega arith, rw (c.min-m-in-loop-b.ensures, c.from.ensures, c.saturating_sub.ensures, capped_from _ (drop (i + 1) w), add-one i) (rw (drop-cons w i 0 c.loop-b-test.true) at c.loop-b.invariant.1))
-
-pub returns : goal.returns
-unfolding value_from
-returns c = omega (arith, rw (drop_of_length-le c.args.digits.now c.loop-b-test.false) at c.loop-b.invariant.1)
