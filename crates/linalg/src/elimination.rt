@@ -12,6 +12,7 @@ pub struct System {
     pub b: [f64; 4],
 }
 
+// n beside a System, and `n ≤ 4` at each step: a struct of both would have to say of each change that n stays, and `solve` takes any n.
 impl System {
     // The row of the largest entry in column i from the diagonal down; of equals the first.
     fn pivot_row(&self, n: usize, i: usize) -> usize

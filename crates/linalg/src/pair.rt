@@ -1,4 +1,5 @@
 // The same for one or two equations, whose answer is a pair of numbers, and the two by two inverse and Cholesky factor.
+// k is how many effects there are, 1 or 2, and no kind: of one the other numbers are zeros.
 #![tactic(auto, unfolding(crate::specs::laws::Steps::pair_steps))]
 
 ghost use Rattle.std.specs.Prelude.{◌≡◌};

@@ -3,7 +3,8 @@ ghost use Rattle.std.specs.Prelude.{◌≡◌};
 ghost use Rattle.std.specs.List.{zip};
 ghost use Rattle.quadrature.specs.Rules.{nodes_of, weights_of, gh_rule};
 
-// Each node with its weight: z = sqrt(2) * x, with x a root for the weight exp(-x^2); the weights sum to 1.
+// Each node with its weight: z = sqrt(2) * x, with x a root for the weight exp(-x^2); the weights sum to 1. Pairs and no `Point`s:
+// 35 times `Point { z: .., w: .. }` would be no plainer to read as a table.
 const GH_3: [(f64, f64); 3] = [
     (-1.7320508075688772, 0.16666666666666669),
     (0.0, 0.6666666666666665),
