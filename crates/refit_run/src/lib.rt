@@ -64,7 +64,8 @@ fn told(
     picture(svg, o, subject, starts, answer);
 }
 
-// The refit from the start values that are given, or from the readings' own.
+// The refit from the start values that are given, or from the readings' own. The lists are lent one by one, as `refit` takes
+// them.
 fn refitted(
     o: &Task,
     request: &Request<'_>,

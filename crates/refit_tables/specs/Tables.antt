@@ -1,9 +1,9 @@
 -- The two tables of a report: each canister's own curve, and each reading beside its curve.
-use Rattle.std.specs.Prelude.{ℕ, ◌-◌, cond, List, [], ◌∷◌, eqb, Float, length, get_or, slice_index, codes, fold}
+use Rattle.std.specs.Prelude.{ℕ, ◌-◌, cond, List, [], ◌∷◌, eqb, Float, length, get_or, slice_index, codes}
 use Rattle.std.specs.Float.{nan}
 use Rattle.std.specs.Float.Ieee.{lt}
-use Rattle.math.specs.Basic.{add, sub, bits, abs_of, max_of}
-use Rattle.math.specs.Basic as Basic
+use Rattle.math.specs.Basic.{add, sub, bits, abs_of}
+use Rattle.math.specs.Lists.{largest_of}
 use Rattle.text_buffer.specs.Text.{joined}
 use Rattle.text_lines.specs.Lines.{left_text, cell_text}
 use Rattle.text_floats.specs.Floats.{decimals_of, fixed_text, figure_text}
@@ -20,10 +20,6 @@ canister_text s g = joined (codes "  " ∷ name_text s g ∷ [])
 -- the decimals of a column whose numbers are about this size: six significant digits, or six decimals for what is very small
 unfoldable pub decimals_for : Float → ℕ
 decimals_for size = cond (lt size (bits 0x3ee4_f8b5_88e3_68f1)) 6 (decimals_of size - 1)
-
--- the largest size in a list
-unfoldable pub largest_of : List Float → Float
-largest_of l = fold (λ m x. max_of m (abs_of x)) Basic.zero l
 
 -- ---- each canister
 

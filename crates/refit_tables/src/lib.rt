@@ -6,7 +6,7 @@ ghost use Rattle.curves.specs.MeanFn.{code_of};
 ghost use Rattle.text_buffer.specs.Text.{wrote};
 ghost use Rattle.svg_axes.specs.Subject.{shown};
 ghost use Rattle.svg_marks.specs.Escape.{each};
-ghost use Rattle.refit_tables.specs.Tables.{name_text, canister_text, decimals_for, largest_of, own_text, canister_row, heads_of, canisters_text, reading_row, reading_rows, readings_text};
+ghost use Rattle.refit_tables.specs.Tables.{name_text, canister_text, decimals_for, own_text, canister_row, heads_of, canisters_text, reading_row, reading_rows, readings_text};
 
 use curves::Curve;
 use svg_axes::curve_at;
@@ -41,14 +41,6 @@ fn decimals_for(size: f64) -> u64
     } else {
         decimals(size).saturating_sub(1)
     }
-}
-
-// The largest size in a list.
-#[tactic(auto, unfolding(crate::specs::Tables::largest_of))]
-fn largest(list: &[f64]) -> f64
-    ensures { result ≡ largest_of list.now }
-{
-    list.iter().fold(0.0, |m, x| math::max(m, math::abs(*x)))
 }
 
 // Value i of a canister: where the effect stands, with it.
@@ -141,7 +133,7 @@ fn reading_rows(out: &mut Text<'_>, s: &Subject<'_>, d: u64)
 pub fn readings(out: &mut Text<'_>, s: &Subject<'_>)
     ensures { out.new ≡ wrote out.old (readings_text (shown s.now)) }
 {
-    let d = decimals_for(largest(s.grams));
+    let d = decimals_for(math::largest(s.grams));
     out.put(
         b"\nEach reading\n  canister               dose      weighed   curve says    difference\n",
     );
