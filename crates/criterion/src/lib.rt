@@ -16,7 +16,8 @@ use fit::fit_checked;
 use fit_refusals::{NlmmProblem, Problem};
 use refusal::Refusal;
 
-// The lists are written as the fit writes them, and the criterion is worked out from them.
+// The lists are written as the fit writes them, and the criterion is worked out from them. `reml` is a flag, as C and
+// document 01 have it: REML or ML. The limit, the flag, the order and the two lists stand here one by one, as C gives them.
 #[tactic(auto, unfolding(crate::specs::Answer::profile_of, fit::specs::Answer::told))]
 pub fn criterion_checked(
     q: &NlmmProblem<'_>,

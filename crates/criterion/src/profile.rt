@@ -5,10 +5,9 @@ ghost use Rattle.criterion.specs.Profile.{df_of, sigma2_of, scalar_of, reml_of, 
 
 use criterion_agq::agq_correction;
 use criterion_groups::Estimate;
-use criterion_logdet::random_effect_logdet;
+use criterion_logdet::{covariance_logdet, random_effect_logdet};
 use fit_penalized::penalties;
 use math::ln::ln;
-use re_cov::log_det_sigma;
 use std::num::nearest_usize_to_f64 as count;
 
 const TWO_PI: f64 = 6.283185307179586;
@@ -85,6 +84,8 @@ impl Terms {
         count(self.n) * (1.0 + ln(TWO_PI * self.sigma2)) + self.logdet
     }
 
+    // Two flags, and no enum of the three formulas: the scalar one reads `reml` too, `degrees` reads `reml` alone, and
+    // `variance` and `logdet` read `scalar` alone.
     #[tactic(auto, unfolding(crate::specs::Profile::laplace_of))]
     fn laplace(self, scalar: bool, reml: bool) -> f64
         ensures { result ≡ laplace_of scalar reml self.n self.m self.k self.p self.df self.sigma2 self.rss self.pen self.logdet }
@@ -105,8 +106,7 @@ fn logdet(at: &Estimate<'_>, scalar: bool) -> f64
     ensures { result ≡ det_of (checked at.now.problem.now) at.now.values at.now.b.now scalar }
 {
     if scalar {
-        let q = at.problem;
-        count(q.groups) * log_det_sigma(q.effects.len(), q.theta)
+        covariance_logdet(at.problem)
     } else {
         random_effect_logdet(at)
     }

@@ -34,10 +34,11 @@ pub struct Estimate<'a> {
     pub problem: &'a NlmmProblem<'a>,
     pub values: [f64; 4],
     pub b: &'a [f64],
-    pub ghost places: { length b.now ≡ problem.now.groups * length problem.now.effects.now },
+    pub ghost places: { problem.now.groups * length problem.now.effects.now ≤ length b.now },
 }
 
-// A group's own readings, and its effects.
+// A group's own readings, and its effects. Two lists, as the call lends them: the determinant gathers doses alone, and
+// pairs would bring it grams that it doesn't read.
 #[derive(Clone, Copy)]
 pub struct Group<'a> {
     pub doses: &'a [f64],

@@ -2,14 +2,19 @@
 #![tactic(auto)]
 
 ghost use Rattle.std.specs.Prelude.{◌≡◌, ◌<◌};
+ghost use Rattle.math.specs.Basic.{mul};
+ghost use Rattle.re_cov.specs.ReCov.{log_det_of};
+ghost use Rattle.fit_refusals.specs.Problem.{k};
 ghost use Rattle.fit_refusals.specs.Given.{checked};
+ghost use Rattle.criterion_groups.specs.Groups.{count_of};
 ghost use Rattle.criterion_logdet.specs.LogDet.{logs_of, group_factor, logdet_of};
 
 use criterion_groups::{Estimate, own_readings};
+use fit_refusals::NlmmProblem;
 use linalg::pair::cholesky;
 use math::ln::ln;
 use re_cov::{log_det_sigma, sigma_inv_from_theta};
-use std::num::nearest_usize_to_f64;
+use std::num::nearest_usize_to_f64 as count;
 
 // The sum of the logarithms of a factor's diagonal.
 #[tactic(auto, unfolding(crate::specs::LogDet::logs_of))]
@@ -39,6 +44,13 @@ fn group_factor(at: &Estimate<'_>, g: usize) -> Option<[[f64; 2]; 2]>
     cholesky(k, block)
 }
 
+// The covariance's log-determinant, once for each group.
+pub fn covariance_logdet(q: &NlmmProblem<'_>) -> f64
+    ensures { result ≡ mul (count_of q.now.groups) (log_det_of (k (checked q.now)) q.now.theta.now) }
+{
+    count(q.groups) * log_det_sigma(q.effects.len(), q.theta)
+}
+
 // Every group counts, one without readings too; +infinity where a factor is none.
 #[tactic(auto, using(linalg::specs::laws::Loops::loops), unfolding(crate::specs::LogDet::logdet_of))]
 pub fn random_effect_logdet(at: &Estimate<'_>) -> f64
@@ -46,7 +58,7 @@ pub fn random_effect_logdet(at: &Estimate<'_>) -> f64
 {
     let q = at.problem;
     let k = q.effects.len();
-    let mut total = nearest_usize_to_f64(q.groups) * log_det_sigma(k, q.theta);
+    let mut total = covariance_logdet(q);
     for g in 0..q.groups {
         let Some(factor) = group_factor(at, g) else {
             return math::infinity();

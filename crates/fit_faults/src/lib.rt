@@ -38,6 +38,7 @@ fn is_upper(x: f64) -> bool
     x > f64::NEG_INFINITY
 }
 
+// This and the next are the list's own method, each with the test of one side: there is no more to share.
 pub fn all_lower(list: &[f64]) -> bool
     ensures { result ≡ every is_lower list.now }
 {

@@ -11,7 +11,8 @@ use math::all_finite;
 use refusal::Refusal;
 
 impl<'a> Problem<'a> {
-    // 1 to 8; those of theta where it is read.
+    // 1 to 8; those of theta where it is read. A flag, and no Option of a list: theta is the problem's own in both cases, and
+    // its tests, 6 and 7, stand among the others.
     #[tactic(auto, using(crate::specs::laws::Codes::known), unfolding(crate::specs::Faults::first_from, crate::specs::Faults::first_of_eight, fit_faults::specs::Tests::bad_code))]
     fn first_eight(&self, reads_theta: bool) -> Result<NlmmProblem<'a>, Refusal>
         ensures number { number_in result ≡ first_of_eight (given self.now) reads_theta }

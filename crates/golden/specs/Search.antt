@@ -25,7 +25,7 @@ search_of q rounds reml nAgq allowed = golden_by (asks q rounds reml nAgq) allow
 unfoldable pub answers_of : Problem → ℕ → Bool → ℕ → ℕ → List Float
 answers_of q rounds reml nAgq allowed = answers_by (asks q rounds reml nAgq) allowed
 
--- no criterion at a finite theta is refused, given room for its lists
+-- at each finite theta the problem is one that a fit takes, given room for its lists
 abbrev pub AlwaysFits : Problem → ℕ → Type 0
 AlwaysFits q rounds = (t : Float) → is_finite t ≡ true → ValidFit (at_theta q t) (p q) (q.groups * k q) rounds
 

@@ -25,7 +25,7 @@ pub struct Bracket {
     pub fd: f64,
 }
 
-// What a search answers.
+// What a search answers. `converged` is an answer of its own: the other four count in either case.
 #[derive(Clone, Copy)]
 pub struct Found {
     pub theta: f64,

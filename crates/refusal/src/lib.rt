@@ -8,7 +8,7 @@ ghost use Rattle.refusal.specs.Refusal.{number_of};
 #[derive(Clone, Copy, Debug, PartialEq, Eq)]
 pub enum Refusal {
     // No curve has the code.
-    Code,
+    Code = 1,
     // No readings, more than 512, or lists of unequal length.
     Readings,
     // No groups, or more than 32.
@@ -30,21 +30,10 @@ pub enum Refusal {
 }
 
 impl Refusal {
-    // Document 01's number, 1 to 10.
+    // Document 01's number, 1 to 10, in the order above.
     pub fn number(self) -> u64
         ensures { result ≡ number_of self }
     {
-        match self {
-            Refusal::Code => 1,
-            Refusal::Readings => 2,
-            Refusal::Groups => 3,
-            Refusal::Group => 4,
-            Refusal::Effects => 5,
-            Refusal::Lengths => 6,
-            Refusal::Numbers => 7,
-            Refusal::Bounds => 8,
-            Refusal::Outputs => 9,
-            Refusal::Limits => 10,
-        }
+        self as u64
     }
 }
