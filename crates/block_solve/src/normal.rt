@@ -41,14 +41,15 @@ fn add_multiples(list: &mut [f64], from: usize, factors: &[f64], y: f64)
     }
 }
 
-// Row i of m times one group's effects.
+// Row i of m times one group's effects, a list: `group_blocks::dot` takes pairs, and `re_cov::dot` two products always.
+#[tactic(auto, using(crate::proofs::Rows::times_zip))]
 fn times(m: [[f64; 2]; 2], i: usize, b: &[f64]) -> f64
     requires { (i < 2) × (length b.now ≤ 2) }
     ensures { result ≡ times_of m i b.now }
 {
     let mut t = 0.0;
-    for (j, x) in b.iter().enumerate() {
-        t += m[i][j] * x;
+    for (&x, &a) in b.iter().zip(&m[i]) {
+        t += a * x;
     }
     t
 }
@@ -124,6 +125,7 @@ impl BlockNormal {
         ensures { result ≡ prior_of k groups inverse b.now self }
     {
         if k <= 2 && groups <= 32 && b.len() == groups * k {
+            // By index: g is a place in the flat arrays too, and k may be 0 here, where `chunks_exact` stops.
             for g in 0..groups {
                 let from = g * k;
                 self.add_group_prior(g, inverse, &b[from..from + k]);

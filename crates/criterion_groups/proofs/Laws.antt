@@ -1,31 +1,17 @@
 -- What a loop over two lists side by side makes is what its definition counts up to. Assumes nothing.
-use Prim.Native.Nat.{ℕ, zero, suc, ◌≤◌}
-use mathlib.Core.Path.{◌≡◌, refl, ap, ◌∙◌}
+use Prim.Native.Nat.{ℕ, ◌≤◌}
+use mathlib.Core.Path.{◌≡◌}
 use mathlib.Core.Bool.{cond}
 use mathlib.Core.List.{List, [], ◌∷◌, ◌++◌}
-use native.Mathlib.Omega.{arith}
 use lib.Dec.{eqb}
 use lib.Ieee.{Float, nan}
-use lib.ListN.{length, get_or}
+use lib.ListN.{length}
 use Rattle.std.specs.List.{fold, zip}
 use Rattle.math.specs.Basic.{add, sub, mul}
 use Rattle.math.specs.Basic as Basic
-use Rattle.math.specs.Loops.{iter}
+use Rattle.math.specs.laws.Zips.{iter_zip}
 use Rattle.fit_refusals.specs.Problem.{Problem}
 use Rattle.criterion_groups.specs.Groups.{own_of, curve_at, group_squares}
-
--- the first turn, and those after it
-iter_front : {S : Type 0} (f : ℕ → S → S) (n : ℕ) (s : S) → iter f (suc n) s ≡ iter (λ i. f (suc i)) n (f 0 s)
-unfolding iter
-iter_front f zero s = refl
-iter_front f (suc n) s = ap (f (suc n)) (iter_front f n s)
-
-iter_zip : {A B S : Type 0} (f : A → B → S → S) (d : A) (e : B) (xs : List A) (ys : List B) (s : S) → length xs ≤ length ys
-    → iter (λ i s. f (get_or xs i d) (get_or ys i e) s) (length xs) s ≡ fold (λ s p. f p.0 p.1 s) s (zip xs ys)
-unfolding iter
-iter_zip f d e [] ys s p = refl
-iter_zip f d e (x ∷ xs) [] s p = absurd (omega arith)
-iter_zip f d e (x ∷ xs) (y ∷ ys) s p = iter_front (λ i s. f (get_or (x ∷ xs) i d) (get_or (y ∷ ys) i e) s) (length xs) s ∙ iter_zip f d e xs ys (f x y s) (omega arith)
 
 -- a reading, h its group
 abbrev pub own_next : ℕ → List Float → ℕ × Float → List Float

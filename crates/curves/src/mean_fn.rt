@@ -111,7 +111,8 @@ pub fn four(values: &[f64]) -> [f64; 4]
     ]
 }
 
-// The values with each effect added at its index; an index past the fourth value adds nothing. The two lists are those that C lends.
+// The values with each effect added at its index; an index past the fourth value adds nothing. The
+// indices are as C lends them, the offsets a part of what a fit has found: no list of pairs.
 #[tactic(auto, using(crate::proofs::Laws::effective_none, crate::proofs::Laws::effective_short, std::proofs::lemmas::List::set_past), unfolding(crate::specs::MeanFn::effective_of))]
 pub fn effective(params: [f64; 4], indices: &[usize], offsets: &[f64]) -> [f64; 4]
     ensures { result ≡ effective_of indices.now offsets.now params }

@@ -22,7 +22,7 @@ pub struct Fitted {
     pub trials: usize,
 }
 
-// The last state's p values and groups times k effects are written, group after group.
+// The last state's p values and groups times k effects are written, group after group, into two lists, as C lends them.
 // Not inlined: a caller's own arrays would lie on the stack beside the fit's.
 #[inline(never)]
 #[tactic(auto, using(fit_step::specs::laws::Sized::params_most, fit_refusals::specs::laws::Valid::few_effects, crate::proofs::Call::checked_done))]

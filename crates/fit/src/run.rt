@@ -7,12 +7,9 @@ ghost use Rattle.fit.specs.Steps.{run_of, ended_with};
 use curves::Mean;
 use fit_penalized::normal::normal;
 use fit_refusals::{MAX_READINGS, NlmmProblem};
-use fit_round::{End, Ended, Evaluated, evaluate_state, round};
+use fit_round::{End, Ended, Evaluated, NEAR, evaluate_state, round};
 use fit_step::trial::{first_lambda, start_state};
 use re_cov::sigma_inv_from_theta;
-
-// A round whose step is below it is the last.
-const NEAR: f64 = 1e-10;
 
 // The rss that is answered was worked out with the state.
 fn end_with(x: &Evaluated, converged: bool, rounds: usize, trials: usize) -> Ended

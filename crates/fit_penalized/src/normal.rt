@@ -69,6 +69,7 @@ fn readings(q: &NlmmProblem<'_>, s: &State, means: &[Mean; MAX_READINGS]) -> Blo
     ensures { result ≡ readings_of (checked q.now) s.now }
 {
     let mut n = BlockNormal::new();
+    // By index: reading i stands in three lists, and its curve in means, which has more places.
     for i in 0..q.doses.len() {
         add_reading(q, i, means[i], &mut n);
     }

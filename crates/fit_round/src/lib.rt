@@ -17,12 +17,13 @@ use fit_step::State;
 use fit_step::trial::{lower_lambda, raise_lambda, step_size, try_step};
 use math::largest;
 
-// How many attempts a round has, how many lengths an attempt, and below what a proposal ends the fit as converged.
+// How many attempts a round has, and how many lengths an attempt.
 const ATTEMPTS: usize = 12;
 
 const LENGTHS: usize = 20;
 
-const NEAR: f64 = 1e-10;
+// A proposal below it ends the fit as converged, and so does a step below it.
+pub const NEAR: f64 = 1e-10;
 
 // A state with its rss and its penalised sum.
 #[derive(Clone, Copy)]
@@ -66,7 +67,8 @@ pub struct Ended {
     pub trials: usize,
 }
 
-// The rss and the penalised sum of a state; its curves are left in means.
+// The rss and the penalised sum of a state; its curves are left in means, a list that is lent beside the state and no field
+// of it: there is no heap, and each state of a fit would have room for 512 curves.
 #[tactic(auto, using(fit_step::specs::laws::Sized::all_fit), unfolding(fit_penalized::specs::Penalized::sum_of))]
 pub fn evaluate_state(
     q: &NlmmProblem<'_>,

@@ -24,6 +24,7 @@ pub fn clamp(lo: f64, hi: f64, v: f64) -> f64
 pub fn project_params(q: &NlmmProblem<'_>, values: &mut [f64; 4])
     ensures { values.new ≡ project_of (checked q.now) values.old }
 {
+    // By index: values is written beside two lists, and of `iter_mut` under `zip` nothing is known to a proof.
     for i in 0..q.curve.n_params() {
         values[i] = clamp(q.lower[i], q.upper[i], values[i]);
     }
@@ -35,6 +36,7 @@ fn clamp_slot(q: &NlmmProblem<'_>, r: usize, lo: f64, hi: f64, beta: f64, b: &mu
     requires { r < k (checked q.now) }
     ensures { b.new ≡ slot_of (checked q.now) r lo hi beta b.old }
 {
+    // By index: every k-th place of b is written, and of `iter_mut` under `step_by` nothing is known to a proof.
     for g in 0..q.groups {
         let at = g * q.effects.len() + r;
         b[at] = clamp(lo, hi, beta + b[at]) - beta;

@@ -118,7 +118,8 @@ fn try_effects(q: &NlmmProblem<'_>, values: &[f64; 4], b: &mut [f64; 64], d: &[f
     project_group_params(q, values, b);
 }
 
-// The state at length alpha of the direction d, after floor and projection.
+// The state at length alpha of the direction d, after floor and projection. d and alpha are no struct: of one d a round tries
+// 20 lengths, and each length halves the one before.
 #[tactic(auto, unfolding(crate::specs::Trial::tried_of))]
 pub fn try_step(q: &NlmmProblem<'_>, s: &State, d: &[f64], alpha: f64) -> State
     requires { direction_length (checked q.now) ≤ length d.now }

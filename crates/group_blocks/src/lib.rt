@@ -66,7 +66,8 @@ pub fn damped(x: f64, damping: f64) -> f64
     x + damping * math::max(x, 1e-8)
 }
 
-// A row of k numbers times a column. k is a count, and with one effect the second product is left out.
+// A row of k numbers times a column. k is a count, and with one effect the second product is left out,
+// which `re_cov::dot` always adds.
 fn dot(k: usize, row: (f64, f64), column: (f64, f64)) -> f64
     ensures { result ≡ dot_of k row column }
 {
@@ -79,6 +80,7 @@ impl Group {
         ensures { result ≡ columns_of shape.k shape.p self.now }
     {
         let mut w = [(0.0, 0.0); 4];
+        // By index: w is written beside the rows that are read, and of `iter_mut` under `zip` nothing is known to a proof.
         for j in 0..shape.p {
             let (a, b) = self.cross[j];
             w[j] = solve_pair(shape.k, self.block, a, b)?;
@@ -101,6 +103,7 @@ impl Group {
         ensures { s.new ≡ reduce_row shape.k shape.p self.now solution.now i s.old }
     {
         let row = self.cross[i];
+        // By index: row i of the flat a is written, as above.
         for j in 0..shape.p {
             s.a[i * 4 + j] -= dot(shape.k, row, solution.columns[j]);
         }
@@ -119,13 +122,13 @@ impl Group {
 
 impl Solution {
     // The columns times the fixed values x, from 0 on.
+    #[tactic(auto, using(crate::proofs::Laws::columns_zip))]
     fn columns_times(&self, shape: Shape, x: [f64; 4]) -> (f64, f64)
         ensures { result ≡ columns_times self.now.columns x shape.p }
     {
         let mut t = (0.0, 0.0);
-        for j in 0..shape.p {
-            let (a, b) = self.columns[j];
-            t = (t.0 + a * x[j], t.1 + b * x[j]);
+        for (&(a, b), &v) in self.columns[..shape.p].iter().zip(&x) {
+            t = (t.0 + a * v, t.1 + b * v);
         }
         t
     }
@@ -141,8 +144,8 @@ fn write_effects(out: &mut [f64], x: f64, y: f64)
     out.copy_from_slice(&[x, y][..n]);
 }
 
-// The direction, from the fixed values x and the groups' solutions; whether each of its components is finite, a flag
-// beside the lent list as solve's in block_solve is, and for its reason.
+// The direction, from the fixed values x and the groups' solutions; whether each of its components is finite, which is
+// solve's own answer in block_solve: asked there it would be the same line, and the edit non_finite_component stands here.
 #[tactic(auto, using(linalg::specs::laws::Loops::loops, crate::proofs::Laws::parts), unfolding(crate::specs::laws::Steps::component_steps))]
 pub fn write_direction(out: &mut [f64], shape: Shape, x: [f64; 4], solved: &[Solution; 32]) -> bool
     requires { length out.old ≡ shape.p + shape.groups * shape.k }
@@ -152,6 +155,7 @@ pub fn write_direction(out: &mut [f64], shape: Shape, x: [f64; 4], solved: &[Sol
     let p = shape.p;
     let k = shape.k;
     out[..p].copy_from_slice(&x[..p]);
+    // By index: each turn lends another part of out, where its group's effects stand.
     for g in 0..shape.groups {
         let at = p + g * k;
         let v = solved[g].pair;

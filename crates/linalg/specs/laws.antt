@@ -1,4 +1,5 @@
 -- What is proved of the definitions: laws, steps and rows by computation. Nothing here has to be believed.
 pub mod Computes
+pub mod Elimination
 pub mod Loops
 pub mod Steps

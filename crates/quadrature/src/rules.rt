@@ -76,7 +76,8 @@ fn rule(order: usize) -> &'static [(f64, f64)]
     }
 }
 
-// The i-th point of the rule of an order; NaNs where there is none.
+// The i-th point of the rule of an order; NaNs where there is none, and no Option: it answers for every i,
+// and a sum over a rule asks for the rule's own points alone.
 pub fn gh_rule(order: usize, i: usize) -> Point
     ensures { result ≡ gh_rule order i }
 {

@@ -29,7 +29,7 @@ pub fn lower_chol(k: usize, theta: &[f64]) -> [[f64; 2]; 2]
     [[a, 0.0], [b, math::max(last, LEAST_DIAGONAL)]]
 }
 
-// The product of two rows of two, from 0.
+// The product of two rows of two, from 0; `group_blocks::dot` leaves the second product out for one effect.
 #[tactic(auto, unfolding(crate::specs::ReCov::dot_of))]
 pub fn dot(a: f64, b: f64, c: f64, d: f64) -> f64
     ensures { result ≡ dot_of a b c d }

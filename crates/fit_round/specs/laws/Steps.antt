@@ -25,7 +25,7 @@ module _ (q : Problem) where
       let b : t + 0 ≡ t = omega arith in
       λ i. (stopped q) s c (a i) (b i)
 
-  after_trial : (s : State) (r t : ℕ) (z : State) (v : Float) (x : Trace) → result_of q s r t (tried z v x) ≡ result_of q s r (t + 1) x
+  pub after_trial : (s : State) (r t : ℕ) (z : State) (v : Float) (x : Trace) → result_of q s r t (tried z v x) ≡ result_of q s r (t + 1) x
   after_trial s r t z v x =
       let n = length x.trials in
       let e : t + suc n ≡ t + 1 + n = omega arith in
