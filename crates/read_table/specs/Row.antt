@@ -1,5 +1,5 @@
 -- One line of a table: three fields, dose, grams and canister, apart by a comma, a semicolon or a tab with spaces around, or by spaces alone.
-use Rattle.std.specs.Prelude.{ℕ, ◌+◌, ◌-◌, Bool, not, ◌&&◌, ◌||◌, cond, List, ◌==◌, nat_le, nat_lt, length, Float, Option, Some, None, Result, Ok, Err}
+use Rattle.std.specs.Prelude.{ℕ, ◌+◌, ◌-◌, ◌≤◌, Bool, not, ◌&&◌, ◌||◌, cond, List, ◌==◌, nat_le, nat_lt, length, Float, Option, Some, None, Result, Ok, Err}
 use Rattle.std.specs.List.{list_all, list_any}
 use Rattle.math.specs.Parts.{part}
 use Rattle.read_decimal.specs.Decimal.{decimal_of}
@@ -13,6 +13,10 @@ use Rattle.read_table.specs.declared.row.Word.{Word}
 use Rattle.read_table.specs.declared.row.Field.{Field}
 use Rattle.read_table.specs.declared.row.Reading.{Reading}
 use Rattle.read_table.specs.declared.row.Row.{Row}
+
+-- a part of a line ends no earlier than it begins, and in the line
+abbrev pub Within : List ℕ → Span → Type 0
+Within line part = (part.start ≤ part.stop) × (part.stop ≤ length line)
 
 -- where the quotes close that open at a place
 unfoldable pub closing_of : List ℕ → ℕ → Option ℕ

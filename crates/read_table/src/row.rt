@@ -3,7 +3,7 @@ ghost use Rattle.std.specs.Prelude.{◌≡◌, ◌≤◌, ◌<◌, ◌+◌, IfSo
 ghost use Rattle.std.specs.List.{list_all};
 ghost use Rattle.read_table.specs.Classes.{is_name_byte};
 ghost use Rattle.read_decimal.specs.Decimal.{decimal_of};
-ghost use Rattle.read_table.specs.Row.{closing_of, word_of, next_of, field_of, named_of, comma_in, decimal_comma, told_of, told_number, number_from, reading_of, row_of};
+ghost use Rattle.read_table.specs.Row.{Within, closing_of, word_of, next_of, field_of, named_of, comma_in, decimal_comma, told_of, told_number, number_from, reading_of, row_of};
 
 use crate::classes::{Stop, is_name_byte, met, scan};
 use crate::fault::TableFault;
@@ -34,8 +34,9 @@ pub struct Reading {
     pub name: Span,
 }
 
-// What a line says. `letters`: its first two fields begin with letters, as a header's do; `ordered`: as a header, it names no
-// column in another's place. Flags and no enum: a line of letters is a header only where all before it was blank.
+// What a line says. `blank`: it has nothing but spaces, or a comment; `letters`: its first two fields begin with letters, as a
+// header's do; `ordered`: as a header, it names no column in another's place. Flags and no enum: a line of letters is a header
+// only where all before it was blank, and `read_row` promises the other three of a blank line too.
 #[derive(Clone, Copy)]
 pub struct Row {
     pub blank: bool,
@@ -62,7 +63,7 @@ fn closing(line: &[u8], at: usize) -> Option<usize>
 #[tactic(auto, unfolding(crate::specs::Row::word_of))]
 fn read_word(line: &[u8], at: usize) -> Word
     ensures value { result ≡ word_of line.now at }
-    ensures inside { at ≤ length line.now → (result.bytes.start ≤ result.bytes.stop) × (result.bytes.stop ≤ length line.now) × (result.tail ≤ length line.now) }
+    ensures inside { at ≤ length line.now → Within line.now result.bytes × (result.tail ≤ length line.now) }
 {
     match closing(line, at) {
         Some(close) => Word {
@@ -98,7 +99,7 @@ fn next_field(line: &[u8], after: usize) -> usize
 #[tactic(auto, unfolding(crate::specs::Row::field_of))]
 fn read_field(line: &[u8], at: usize) -> Field
     ensures value { result ≡ field_of line.now at }
-    ensures inside { at ≤ length line.now → (result.bytes.start ≤ result.bytes.stop) × (result.bytes.stop ≤ length line.now) × (result.next ≤ length line.now) }
+    ensures inside { at ≤ length line.now → Within line.now result.bytes × (result.next ≤ length line.now) }
 {
     let word = read_word(line, at);
     let after = scan(line, word.tail, Stop::EndOfSpaces);
@@ -188,7 +189,7 @@ fn read_reading(line: &[u8], d: Field, g: Field, c: Field) -> Result<Reading, Ta
 #[tactic(auto, unfolding(crate::specs::Row::row_of))]
 pub fn read_row(line: &[u8], at: usize) -> Row
     ensures value { result ≡ row_of line.now at }
-    ensures start_le_stop { at ≤ length line.now → IfOk result.reading (λ r. (r.name.start ≤ r.name.stop) × (r.name.stop ≤ length line.now)) }
+    ensures start_le_stop { at ≤ length line.now → IfOk result.reading (λ r. Within line.now r.name) }
 {
     let first = scan(line, at, Stop::EndOfSpaces);
     let d = read_field(line, first);

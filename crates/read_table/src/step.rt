@@ -1,5 +1,5 @@
 // One line after the other: what a line says, and what it changes.
-ghost use Rattle.std.specs.Prelude.{◌≡◌, ◌≤◌, ◌<◌, length};
+ghost use Rattle.std.specs.Prelude.{◌≡◌, ◌≤◌, ◌<◌, ◌^◌, length};
 ghost use Rattle.read_table.specs.Table.{settled_of, lists, state, step_of, InBounds};
 
 use crate::Table;
@@ -45,12 +45,12 @@ pub fn next_line(
     groups: &mut [usize],
     names: &mut [Span],
 ) -> Result<(), TableFault>
-    requires at_in_bounds { (p.old.at < length text.now) × (p.old.read.lines ≤ p.old.at) }
+    requires at_in_bounds { (p.old.at < length text.now) × (p.old.read.lines < 2 ^ 63) }
     requires in_bounds { InBounds (lists p.old.read doses.old grams.old groups.old names.old) }
     ensures value { (result, state p.new doses.new grams.new groups.new names.new)
         ≡ step_of text.now (state p.old doses.old grams.old groups.old names.old) }
     ensures in_bounds { InBounds (lists p.new.read doses.new grams.new groups.new names.new) }
-    ensures further { (p.old.at < p.new.at) × (p.new.read.lines ≤ p.new.at) }
+    ensures further { (p.old.at < p.new.at) × (p.old.read.lines ≤ p.old.at → p.new.read.lines ≤ p.new.at) }
 {
     let end = scan(text, p.at, Stop::Newline);
     let row = read_row(&text[..end], p.at);

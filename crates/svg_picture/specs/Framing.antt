@@ -1,5 +1,5 @@
 -- The text of the frame: the title, the axes and what stands at them.
-use Rattle.std.specs.Prelude.{ℕ, ◌+◌, Bool, true, false, cond, List, [], ◌∷◌, ◌++◌, pos, Float, codes}
+use Rattle.std.specs.Prelude.{ℕ, ◌+◌, Bool, cond, List, [], ◌∷◌, ◌++◌, pos, Float, codes}
 use Rattle.std.specs.Float.{binary64}
 use Rattle.std.specs.Float.Ieee.{of_int}
 use Rattle.math.specs.Basic.{add, mul, bits}
@@ -11,29 +11,30 @@ use Rattle.svg_axes.specs.Axes.{x_pixel, y_pixel}
 use Rattle.svg_axes.specs.Subject.{curve_name}
 use Rattle.svg_marks.specs.Marks.{number_text}
 use Rattle.svg_marks.specs.Escape.{each}
+use Rattle.svg_picture.specs.declared.framing.Way.{Way}
 
 -- ---- the axes: tick i of the count + 1 ticks, with a line of the grid, and its label
 
 unfoldable pub tick_at : Axis → ℕ → Float
 tick_at a i = mul (add a.first (of_int binary64 (pos i))) a.step
 
-unfoldable pub grid_text : Axis → Bool → Float → List ℕ
-grid_text a across v =
-    cond across
-    (joined (
+unfoldable pub grid_text : Axis → Way → Float → List ℕ
+grid_text a Way.Across v =
+    joined (
     number_text (codes "<path stroke=\"#dddddd\" d=\"M") (x_pixel a v)
     ∷ number_text (codes " 50V450\"/><text text-anchor=\"middle\" y=\"468\" x=\"") (x_pixel a v)
-    ∷ []))
-    (joined (
+    ∷ [])
+grid_text a Way.Up v =
+    joined (
     number_text (codes "<path stroke=\"#dddddd\" d=\"M70 ") (y_pixel a v)
     ∷ number_text (codes "H670\"/><text text-anchor=\"end\" x=\"62\" y=\"") (add (y_pixel a v) (bits 0x4010_0000_0000_0000))
-    ∷ []))
+    ∷ [])
 
-unfoldable pub tick_text : Axis → Bool → ℕ → List ℕ
-tick_text a across i = joined (grid_text a across (tick_at a i) ∷ codes "\">" ∷ fixed_text (tick_at a i) a.decimals ∷ codes "</text>\n" ∷ [])
+unfoldable pub tick_text : Axis → Way → ℕ → List ℕ
+tick_text a way i = joined (grid_text a way (tick_at a i) ∷ codes "\">" ∷ fixed_text (tick_at a i) a.decimals ∷ codes "</text>\n" ∷ [])
 
-unfoldable pub ticks_text : Axis → Bool → List ℕ
-ticks_text a across = each (tick_text a across) (a.count + 1)
+unfoldable pub ticks_text : Axis → Way → List ℕ
+ticks_text a way = each (tick_text a way) (a.count + 1)
 
 -- ---- the frame: the title, the axes and what stands at them, and what that is in the example
 
@@ -44,9 +45,9 @@ title_text code said =
 unfoldable pub axes_text : Frame → List ℕ
 axes_text f =
     joined (
-    ticks_text f.x true
+    ticks_text f.x Way.Across
     ∷ codes "<path stroke=\"#222222\" d=\"M70 450H670\"/>\n"
-    ∷ ticks_text f.y false
+    ∷ ticks_text f.y Way.Up
     ∷ codes "<path stroke=\"#222222\" d=\"M70 50V450\"/>\n"
     ∷ [])
 

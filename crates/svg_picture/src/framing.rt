@@ -12,55 +12,64 @@ use svg_marks::{BASELINE, number};
 use text_buffer::Text;
 use text_floats::fixed;
 
+// Which way an axis runs: the doses across the picture, the grams up.
+#[derive(Clone, Copy, Debug, PartialEq, Eq)]
+pub enum Way {
+    Across,
+    Up,
+}
+
 // A line of the grid, up to where its label stands.
-fn grid(out: &mut Text<'_>, a: Axis, across: bool, v: f64)
-    ensures { out.new ≡ wrote out.old (grid_text a across v) }
+fn grid(out: &mut Text<'_>, a: Axis, way: Way, v: f64)
+    ensures { out.new ≡ wrote out.old (grid_text a way v) }
 {
-    if across {
-        let x = x_pixel(a, v);
-        number(out, b"<path stroke=\"#dddddd\" d=\"M", x);
-        number(
-            out,
-            b" 50V450\"/><text text-anchor=\"middle\" y=\"468\" x=\"",
-            x,
-        );
-    } else {
-        let y = y_pixel(a, v);
-        number(out, b"<path stroke=\"#dddddd\" d=\"M70 ", y);
-        number(
-            out,
-            b"H670\"/><text text-anchor=\"end\" x=\"62\" y=\"",
-            y + BASELINE,
-        );
+    match way {
+        Way::Across => {
+            let x = x_pixel(a, v);
+            number(out, b"<path stroke=\"#dddddd\" d=\"M", x);
+            number(
+                out,
+                b" 50V450\"/><text text-anchor=\"middle\" y=\"468\" x=\"",
+                x,
+            );
+        }
+        Way::Up => {
+            let y = y_pixel(a, v);
+            number(out, b"<path stroke=\"#dddddd\" d=\"M70 ", y);
+            number(
+                out,
+                b"H670\"/><text text-anchor=\"end\" x=\"62\" y=\"",
+                y + BASELINE,
+            );
+        }
     }
 }
 
-fn tick(out: &mut Text<'_>, a: Axis, across: bool, i: u64)
-    ensures { out.new ≡ wrote out.old (tick_text a across i) }
+fn tick(out: &mut Text<'_>, a: Axis, way: Way, i: u64)
+    ensures { out.new ≡ wrote out.old (tick_text a way i) }
 {
     let v = (a.first + std::num::nearest_u64_to_f64(i)) * a.step;
-    grid(out, a, across, v);
+    grid(out, a, way, v);
     out.put(b"\">");
     fixed(out, v, a.decimals);
     out.put(b"</text>\n");
 }
 
 #[tactic(auto, using(svg_marks::proofs::Laws::running), unfolding(crate::specs::Framing::ticks_text))]
-fn ticks(out: &mut Text<'_>, a: Axis, across: bool)
-    ensures { out.new ≡ wrote out.old (ticks_text a across) }
+fn ticks(out: &mut Text<'_>, a: Axis, way: Way)
+    ensures { out.new ≡ wrote out.old (ticks_text a way) }
 {
-    for i in 0..a.count {
-        tick(out, a, across, i);
+    for i in 0..=a.count {
+        tick(out, a, way, i);
     }
-    tick(out, a, across, a.count);
 }
 
 fn axes(out: &mut Text<'_>, f: &Frame)
     ensures { out.new ≡ wrote out.old (axes_text f.now) }
 {
-    ticks(out, f.x, true);
+    ticks(out, f.x, Way::Across);
     out.put(b"<path stroke=\"#222222\" d=\"M70 450H670\"/>\n");
-    ticks(out, f.y, false);
+    ticks(out, f.y, Way::Up);
     out.put(b"<path stroke=\"#222222\" d=\"M70 50V450\"/>\n");
 }
 

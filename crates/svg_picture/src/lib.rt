@@ -16,7 +16,7 @@ use svg_series::legend::legend;
 use svg_series::series::{curve, readings};
 use text_buffer::Text;
 
-// Canister g: its curve, its readings and its row of the legend.
+// Canister g: its curve, its readings and its row of the legend; `s`, `f` and `g` apart, as in svg_series.
 #[tactic(auto, using(text_buffer::specs::laws::Text::writing), unfolding(crate::specs::Picture::canister_text))]
 fn canister(out: &mut Text<'_>, s: &Subject<'_>, f: &Frame, g: usize)
     ensures { out.new ≡ wrote out.old (canister_text (shown s.now) f.now g) }

@@ -1,4 +1,5 @@
-// A canister's curve and its readings.
+// A canister's curve and its readings. `s`, `f` and `g` go from function to function apart: each contract would take a struct of
+// them to pieces again, as `curve_text (shown c.s.now) c.f.now c.g`.
 ghost use Rattle.std.specs.Prelude.{◌≡◌};
 ghost use Rattle.text_buffer.specs.Text.{wrote};
 ghost use Rattle.svg_marks.specs.Escape.{each};

@@ -1,5 +1,6 @@
 // Text for a person, written into a lent buffer. What does not fit is told: a text that is full stays full, and whoever
-// reads it asks once, at the end.
+// reads it asks once, at the end. Numbers and words have functions that write them, and no `Display`, which says the bytes only
+// where all of them fit; `wrote` says too what a full buffer holds.
 #![tactic(auto)]
 
 ghost use Rattle.std.specs.Prelude.{◌≡◌, ◌∷◌, []};
@@ -8,7 +9,8 @@ ghost use Rattle.text_buffer.specs.Text.{empty, wrote, whole_text};
 
 use std::marker::Model;
 
-// A part of a text, by where it begins and ends.
+// A part of a text, by where it begins and ends; no slice, of which a contract would tell the bytes and not where they stand,
+// as read_table's does of each name.
 #[derive(Clone, Copy, Debug, PartialEq, Eq)]
 pub struct Span {
     pub start: usize,
@@ -25,7 +27,8 @@ impl Span {
     }
 }
 
-// A lent buffer and not a String: the library crates have no heap. `full` is not read off `at`: what fills the buffer to its end has fitted.
+// A lent buffer and not a String: but for the replays (replay_cases) and refit's words of a system's error, nothing here has a heap.
+// `full` is not read off `at`: what fills the buffer to its end has fitted.
 #[derive(Drop)]
 pub struct Text<'a> {
     out: &'a mut [u8],

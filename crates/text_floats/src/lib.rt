@@ -158,6 +158,7 @@ pub fn figure(out: &mut Text<'_>, x: f64)
 }
 
 // A size of about mantissa * 10^power, the mantissa at least 1 and below 10: by divisions and products by ten, each rounded.
+// That the power is at most 400 stands in four contracts: with a ghost field for it, each definition that builds a Scaled would have to prove it.
 #[derive(Clone, Copy)]
 pub struct Scaled {
     pub mantissa: f64,

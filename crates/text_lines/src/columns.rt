@@ -1,6 +1,7 @@
 // Columns: text at the right or the left of a given width, spaces beside it. A text that is wider is written whole.
-ghost use Rattle.std.specs.Prelude.{◌-◌, ◌≡◌};
-ghost use Rattle.text_buffer.specs.Text.{wrote};
+ghost use Rattle.std.specs.Prelude.{◌-◌, ◌≡◌, replicate};
+ghost use Rattle.std.specs.Fn.{FnOnceReturnsAtMut};
+ghost use Rattle.text_buffer.specs.Text.{Written, empty, wrote};
 ghost use Rattle.text_floats.specs.Floats.{fixed_text, figure_text};
 ghost use Rattle.text_lines.specs.Lines.{spaces, left_text, right_text, cell_text};
 
@@ -35,23 +36,28 @@ pub fn left(out: &mut Text<'_>, width: usize, text: &[u8])
 // A number's text is written into a room first, as its length is known only then; it is fixed, as there is no heap.
 const ROOM: usize = 64;
 
+// What `write` leaves in an empty room, at the right of the width.
+fn cell<F: FnOnce(&mut Text<'_>)>(out: &mut Text<'_>, width: usize, write: F)
+    requires { F.IsAlwaysCallable write }
+    ensures { (t : Written) × FnOnceReturnsAtMut F.FnOnce write (empty (replicate 64 0)) tt t × (out.new ≡ wrote out.old (right_text width t.text)) }
+{
+    let mut room = [0; ROOM];
+    let mut text = Text::new(&mut room);
+    write(&mut text);
+    right(out, width, text.written());
+}
+
 // A number at the right of the width.
 #[tactic(auto, using(text_buffer::specs::laws::Text::held))]
 pub fn fixed(out: &mut Text<'_>, width: usize, x: f64, decimals: u64)
     ensures { out.new ≡ wrote out.old (cell_text width (fixed_text x decimals)) }
 {
-    let mut room = [0; ROOM];
-    let mut text = Text::new(&mut room);
-    text_floats::fixed(&mut text, x, decimals);
-    right(out, width, text.written());
+    cell(out, width, |text| text_floats::fixed(text, x, decimals));
 }
 
 #[tactic(auto, using(text_buffer::specs::laws::Text::held))]
 pub fn figure(out: &mut Text<'_>, width: usize, x: f64)
     ensures { out.new ≡ wrote out.old (cell_text width (figure_text x)) }
 {
-    let mut room = [0; ROOM];
-    let mut text = Text::new(&mut room);
-    text_floats::figure(&mut text, x);
-    right(out, width, text.written());
+    cell(out, width, |text| text_floats::figure(text, x));
 }

@@ -3,7 +3,7 @@ ghost use Rattle.std.specs.Prelude.{◌≡◌, map, position};
 ghost use Rattle.std.specs.List.{list_any};
 ghost use Rattle.std.specs.Str.{str_eq_ignore_ascii_case};
 
-// Std's `eq_ignore_ascii_case`, named for words as the two below are: called by it, a list of options would be no plainer.
+// Std's `eq_ignore_ascii_case` by a short name, for options told one by one: `same_word(b"--ml", word)` beside `is_among(&[..], word)`.
 pub fn same_word(a: &[u8], b: &[u8]) -> bool
     ensures { result ≡ str_eq_ignore_ascii_case a.now b.now }
 {

@@ -9,50 +9,34 @@ use std::slice::Iter;
 use text_buffer::Text;
 use text_floats::{figure, fixed};
 
-#[tactic(auto, using(text_buffer::specs::laws::Text::writing))]
-fn next_whole(out: &mut Text<'_>, wholes: &mut Iter<'_, u64>)
-    ensures text { out.new ≡ wrote out.old (next_of whole_text (iter_rest wholes.old)) }
-    ensures rest { iter_rest wholes.new ≡ drop 1 (iter_rest wholes.old) }
-{
-    match wholes.next() {
-        Some(n) => out.whole(*n),
-        None => out.byte(b'?'),
-    }
-}
-
-fn next_figure(out: &mut Text<'_>, floats: &mut Iter<'_, f64>)
-    ensures text { out.new ≡ wrote out.old (next_of figure_text (iter_rest floats.old)) }
-    ensures rest { iter_rest floats.new ≡ drop 1 (iter_rest floats.old) }
-{
-    match floats.next() {
-        Some(x) => figure(out, *x),
-        None => out.byte(b'?'),
-    }
-}
-
-#[tactic(auto, unfolding(crate::specs::Lines::one_decimal))]
-fn next_fixed(out: &mut Text<'_>, floats: &mut Iter<'_, f64>)
-    ensures text { out.new ≡ wrote out.old (next_of one_decimal (iter_rest floats.old)) }
-    ensures rest { iter_rest floats.new ≡ drop 1 (iter_rest floats.old) }
-{
-    match floats.next() {
-        Some(x) => fixed(out, *x, 1),
-        None => out.byte(b'?'),
-    }
+// What stands in a line: a number in one of the ways of the marks, or a byte as it is.
+#[derive(Clone, Copy)]
+enum Item {
+    Whole(u64),
+    Figure(f64),
+    OneDecimal(f64),
+    Byte(u8),
 }
 
 // What a byte after `%` stands for.
-#[tactic(auto, unfolding(crate::specs::Lines::for_mark, crate::specs::Lines::wholes_after, crate::specs::Lines::floats_after))]
+#[tactic(auto, unfolding(crate::specs::Lines::one_decimal, crate::specs::Lines::for_mark, crate::specs::Lines::wholes_after, crate::specs::Lines::floats_after))]
 fn mark(out: &mut Text<'_>, c: u8, wholes: &mut Iter<'_, u64>, floats: &mut Iter<'_, f64>)
     ensures text { out.new ≡ wrote out.old (for_mark c (iter_rest wholes.old) (iter_rest floats.old)) }
     ensures wholes { iter_rest wholes.new ≡ wholes_after c (iter_rest wholes.old) }
     ensures floats { iter_rest floats.new ≡ floats_after c (iter_rest floats.old) }
 {
-    match c {
-        b'n' => next_whole(out, wholes),
-        b'g' => next_figure(out, floats),
-        b'1' => next_fixed(out, floats),
-        _ => out.byte(c),
+    let item = match c {
+        b'n' => wholes.next().map(|n| Item::Whole(*n)),
+        b'g' => floats.next().map(|x| Item::Figure(*x)),
+        b'1' => floats.next().map(|x| Item::OneDecimal(*x)),
+        _ => Some(Item::Byte(c)),
+    };
+    match item {
+        Some(Item::Whole(n)) => out.whole(n),
+        Some(Item::Figure(x)) => figure(out, x),
+        Some(Item::OneDecimal(x)) => fixed(out, x, 1),
+        Some(Item::Byte(b)) => out.byte(b),
+        None => out.byte(b'?'),
     }
 }
 

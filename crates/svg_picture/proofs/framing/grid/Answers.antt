@@ -3,10 +3,10 @@ use Rattle.text_buffer.specs.laws.Text.{joined_none, joined_then}
 use Rattle.svg_picture.specs.Framing.{grid_text}
 use Rattle.svg_picture.proofs.framing.grid.Goals as goal
 
-pub returns-then-across : goal.returns-then-across
+pub returns-in-Across : goal.returns-in-Across
 unfolding grid_text
-returns-then-across c = rw c.if-across.true (simp (joined_then, joined_none) (cc))
+returns-in-Across c = rw c.in-Across.is (simp (joined_then, joined_none) (cc))
 
-pub returns-else-across : goal.returns-else-across
+pub returns-in-Up : goal.returns-in-Up
 unfolding grid_text
-returns-else-across c = rw c.if-across.false (simp (joined_then, joined_none) (cc))
+returns-in-Up c = rw c.in-Up.is (simp (joined_then, joined_none) (cc))

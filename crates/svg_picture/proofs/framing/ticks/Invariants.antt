@@ -5,4 +5,4 @@ use Rattle.svg_picture.specs.Framing.{tick_text}
 use Rattle.svg_picture.proofs.framing.ticks.Given as goal
 
 abbrev pub invariant-loop-i : goal.invariant-loop-i
-invariant-loop-i l = l.out ≡ wrote l.initial.out (each (tick_text l.a l.across) l.i)
+invariant-loop-i l = l.out ≡ wrote l.initial.out (each (tick_text l.a l.way) l.i)
