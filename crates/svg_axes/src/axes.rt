@@ -8,15 +8,22 @@ use text_floats::{Scaled, in_tens, nearest};
 
 // The frame: 600 wide from 70 at the left, 400 high from 50 at the top.
 const LEFT: f64 = 70.0;
+
 const RIGHT: f64 = 670.0;
+
 const WIDTH: f64 = 600.0;
+
 const TOP: f64 = 50.0;
+
 const BOTTOM: f64 = 450.0;
+
 const HEIGHT: f64 = 400.0;
 
 // A step is at least a fifth of the range, and has at most fifteen decimals; an end lies fewer steps from 0 than would be lost in rounding.
 const PARTS: f64 = 5.0;
+
 const MOST_DECIMALS: u64 = 15;
+
 const MOST_STEPS: f64 = 1e12;
 
 // From first * step to (first + count) * step, labelled with so many decimals.

@@ -46,6 +46,7 @@ pub fn list_range(list: &[f64]) -> Range
 
 // A curve is drawn in 60 pieces, between 61 doses.
 const PIECES: f64 = 60.0;
+
 pub const SAMPLES: u64 = 61;
 
 // The j-th of the doses, from 0.

@@ -11,7 +11,9 @@ use text_buffer::Text;
 
 // A row for each of the canisters that a refit takes; all others would stand in the first one.
 const ROWS: usize = 32;
+
 const FIRST_ROW: f64 = 60.0;
+
 const ROW_HEIGHT: f64 = 14.0;
 
 #[tactic(auto, unfolding(crate::specs::Canister::name_text))]
