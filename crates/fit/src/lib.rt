@@ -40,6 +40,7 @@ pub fn fit_checked(
     values.copy_from_slice(&last.state.values[..p]);
     let n = effects_out.len();
     effects_out.copy_from_slice(&last.state.effects[..n]);
+    // What is left of `last` without its state, which is written.
     Fitted {
         rss: last.rss,
         converged: last.converged,
