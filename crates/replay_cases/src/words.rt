@@ -166,10 +166,12 @@ impl<'a> Words<'a> {
         Some(len)
     }
 
-    // The same, and answers the list itself. What `out` has behind it, `list_into` says: here `out` is still lent.
+    // The same, and answers the list itself. What `out` holds then, `list_into` says: here `out` is still lent, and std's `Rests`, which
+    // speaks of it afterwards, is proved by hand alone.
     pub fn list<'b, T: Value>(&mut self, out: &'b mut [T]) -> Option<&'b [T]>
         ensures value { option_map (λ l. l.now) result ≡ list_of T.value_of (length out.old) self.old }
         ensures rest { IfSome result (λ l. self.new ≡ after_words (length l.now + 1) self.old) }
+        ensures left { self.new ≡ after_values T.value_of (places (length out.old) self.old) (after_word self.old) }
     {
         let len = self.list_into(out)?;
         Some(&out[..len])
