@@ -1,5 +1,5 @@
 -- The words of a line, one after the other.
-use Rattle.std.specs.Prelude.{ℕ, zero, suc, ◌+◌, ◌==◌, Bool, cond, unwrap_or, List, [], ◌∷◌, eqb, leb, length, take, drop, Option, Some, None, option_map, option_and_then}
+use Rattle.std.specs.Prelude.{ℕ, zero, suc, ◌+◌, ◌==◌, Bool, cond, unwrap_or, List, [], ◌∷◌, ◌++◌, eqb, leb, length, take, drop, Option, Some, None, option_map, option_and_then}
 use Rattle.std.specs.List.{position}
 use Rattle.math.specs.Lists.{same_lists}
 use Rattle.replay_cases.specs.Digits.{decimal_of}
@@ -38,9 +38,26 @@ unfoldable pub list_of : {A : Type 0} → (List ℕ → Option A) → ℕ → Op
 list_of value room left =
     option_and_then (λ n. cond (leb n room) (elements value n (after_word left)) None) (option_and_then decimal_of (word_of left))
 
+-- what `out` holds once words are put to its places in turn; from the first fault on it keeps what it held
+unfoldable pub filled : {A : Type 0} → (List ℕ → Option A) → List A → Option (List ℕ) → List A
+filled value [] left = []
+filled value (x ∷ out) left =
+    unwrap_or (option_map (λ y. y ∷ filled value out (after_word left)) (option_and_then value (word_of left))) (x ∷ out)
+
+-- what is left after n such words, or after the first fault
+unfoldable pub after_values : {A : Type 0} → (List ℕ → Option A) → ℕ → Option (List ℕ) → Option (List ℕ)
+after_values value zero left = left
+after_values value (suc n) left =
+    unwrap_or (option_map (λ _. after_values value n (after_word left)) (option_and_then value (word_of left))) (after_word left)
+
 -- how many places a list takes, of `room`; a fault in its length takes none
 abbrev pub places : ℕ → Option (List ℕ) → ℕ
 places room left = unwrap_or (option_map (λ n. cond (leb n room) n 0) (option_and_then decimal_of (word_of left))) 0
+
+-- what `out` holds once a list is put to its start
+abbrev pub listed : {A : Type 0} → (List ℕ → Option A) → List A → Option (List ℕ) → List A
+listed value out left =
+    filled value (take (places (length out) left) out) (after_word left) ++ drop (places (length out) left) out
 
 -- whether the next words say these values
 abbrev pub said : {A : Type 0} → (List ℕ → Option A) → (A → A → Bool) → List A → Option (List ℕ) → Option Bool

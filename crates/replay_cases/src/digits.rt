@@ -52,7 +52,6 @@ pub fn decimal(w: &[u8]) -> Option<u64>
 }
 
 // A NaN is the word `nan`; any other float its bits in 16 digits.
-
 pub fn float_of(w: &[u8]) -> Option<f64>
     ensures { result ≡ float_of w.now }
 {

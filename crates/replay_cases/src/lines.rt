@@ -38,7 +38,12 @@ pub struct Lines<B> {
 }
 
 impl<B: BufRead> Lines<B> {
-    pub fn new(alloc: Global, input: B) -> Self {
+    ghost use Rattle.std.specs.Prelude.{◌≡◌};
+    ghost use Rattle.replay_cases.specs.Lines.{bytes_left};
+
+    pub fn new(alloc: Global, input: B) -> Self
+        ensures { bytes_left B.remaining result ≡ B.remaining input }
+    {
         Lines {
             input,
             alloc,

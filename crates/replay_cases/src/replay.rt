@@ -1,5 +1,5 @@
 // Every line of an input, judged and counted.
-ghost use Rattle.std.specs.Prelude.{◌<◌, length, IfSome};
+ghost use Rattle.std.specs.Prelude.{◌≡◌, ◌<◌, length, map, IfSome, IfOk};
 
 use crate::lines::Lines;
 use crate::tally::{Operation, Tally, Verdict, verdict_of};
@@ -34,6 +34,7 @@ fn verdict<J: Fn(&str, &mut Words<'_>) -> Option<bool>>(
     verdict_of(op, words.end().and(agrees))
 }
 
+// Each line of the input, judged and counted. What the counts come to, it does not state: what a judge answers is known of no line.
 pub fn replay<B: BufRead + Drop, J: Fn(&str, &mut Words<'_>) -> Option<bool>>(
     alloc: Global,
     input: B,
@@ -41,6 +42,7 @@ pub fn replay<B: BufRead + Drop, J: Fn(&str, &mut Words<'_>) -> Option<bool>>(
     judge: J,
 ) -> Result<Tally, AllocError>
     requires { J.IsAlwaysCallable judge }
+    ensures names { IfOk result (λ t. map (λ o. o.name) t.operations.items ≡ names.now) }
 {
     let mut tally = Tally::new(alloc, names)?;
     for (number, line) in (1..u64::MAX).zip(Lines::new(alloc, input)) {
@@ -55,7 +57,8 @@ pub fn replay<B: BufRead + Drop, J: Fn(&str, &mut Words<'_>) -> Option<bool>>(
     Ok(tally)
 }
 
-// A whole program: standard input replayed, and the tally printed.
+// A whole program: standard input replayed, and the tally printed. It states nothing: std's contracts say neither what the input
+// holds nor what was printed.
 pub fn replay_input<R: Input + Print + AllocGlobal, J: Fn(&str, &mut Words<'_>) -> Option<bool>>(
     rt: &R,
     names: &[&'static str],
@@ -66,4 +69,31 @@ pub fn replay_input<R: Input + Print + AllocGlobal, J: Fn(&str, &mut Words<'_>) 
     let input = BufReader::new(rt.alloc(), rt.reader())?;
     let tally = replay(rt.alloc(), input, names, judge)?;
     print!(rt; "{tally}")
+}
+
+#[cfg(test)]
+mod tests {
+    use super::*;
+    use std::test::Fail;
+
+    // A judge of lines `NAME 1`.
+    fn says_one(_name: &str, words: &mut Words<'_>) -> Option<bool> {
+        words.says(1u64)
+    }
+
+    // There is memory for the operations and for each line.
+    #[test]
+    fn counts_each_line(rt: HostRuntime) -> Result<(), Fail> {
+        let input: &[u8] = b"a 1\nb 2\na\nc 1\na 1\nb 1";
+        let tally = replay(rt.alloc(), input, &["a", "b"], says_one)?;
+        assert!(rt; tally.operations.len() == 2, "two operations");
+        assert!(rt; tally.operations[0].lines == 2);
+        assert!(rt; tally.operations[0].agree == 2);
+        assert!(rt; tally.operations[1].lines == 1);
+        assert!(rt; tally.operations[1].first_differs == Some(2));
+        assert!(rt; tally.malformed == 2);
+        assert!(rt; tally.first_malformed == Some(3));
+        assert!(rt; tally.unread == 1);
+        Ok(())
+    }
 }

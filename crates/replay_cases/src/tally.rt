@@ -156,3 +156,20 @@ impl fmt::Display for Tally {
         Ok(())
     }
 }
+
+#[cfg(test)]
+mod tests {
+    use super::*;
+    use std::test::Fail;
+
+    // There is memory for the operations, also for none.
+    #[test]
+    fn begins_with_no_lines(rt: HostRuntime) -> Result<(), Fail> {
+        let tally = Tally::new(rt.alloc(), &["a", "b", "c"])?;
+        assert!(rt; tally.operations.len() == 3);
+        assert!(rt; tally.unread == 0);
+        let none = Tally::new(rt.alloc(), &[])?;
+        assert!(rt; none.operations.is_empty());
+        Ok(())
+    }
+}

@@ -2,7 +2,7 @@
 // should hold with `?`, and asks for its end last.
 ghost use Rattle.std.specs.Prelude.{◌≡◌, ℕ, Bool, nat_eq, List, Option, ◌+◌, ◌≤◌, ◌↔◌, ◌==◌, Some, None, IsSome, IfSome, OnSome, length, take, drop, option_map, option_and_then};
 ghost use Rattle.std.specs.List.{position};
-ghost use Rattle.replay_cases.specs.Words.{elements, cut, word_of, after_word, after_words, list_of, places, said, said_list};
+ghost use Rattle.replay_cases.specs.Words.{elements, cut, word_of, after_word, after_words, after_values, filled, list_of, listed, places, said, said_list};
 ghost use Rattle.replay_cases.specs.Digits.{decimal_of, float_of};
 ghost use Rattle.replay_cases.specs.Same.{same_bits};
 
@@ -137,7 +137,9 @@ impl<'a> Words<'a> {
     #[tactic(auto, using(crate::proofs::Elements::reading))]
     pub fn values<T: Value>(&mut self, out: &mut [T]) -> Option<()>
         ensures value { option_map (λ _. out.new) result ≡ elements T.value_of (length out.old) self.old }
+        ensures out { out.new ≡ filled T.value_of out.old self.old }
         ensures rest { OnSome result (self.new ≡ after_words (length out.old) self.old) }
+        ensures left { self.new ≡ after_values T.value_of (length out.old) self.old }
     {
         for x in out.iter_mut() {
             *x = self.value()?;
@@ -151,8 +153,10 @@ impl<'a> Words<'a> {
     pub fn list_into<T: Value>(&mut self, out: &mut [T]) -> Option<usize>
         ensures value { option_map (λ n. take n out.new) result ≡ list_of T.value_of (length out.old) self.old }
         ensures bound { IfSome result (λ n. n ≤ length out.new) }
+        ensures out { out.new ≡ listed T.value_of out.old self.old }
         ensures behind { drop (places (length out.old) self.old) out.new ≡ drop (places (length out.old) self.old) out.old }
         ensures rest { IfSome result (λ n. self.new ≡ after_words (n + 1) self.old) }
+        ensures left { self.new ≡ after_values T.value_of (places (length out.old) self.old) (after_word self.old) }
     {
         let len = self.value::<usize>()?;
         if len > out.len() {
@@ -162,10 +166,12 @@ impl<'a> Words<'a> {
         Some(len)
     }
 
-    // The same, and answers the list itself. What `out` has behind it, `list_into` says: here `out` is still lent.
+    // The same, and answers the list itself. What `out` holds then, `list_into` says: here `out` is still lent, and std's `Rests`, which
+    // speaks of it afterwards, is proved by hand alone.
     pub fn list<'b, T: Value>(&mut self, out: &'b mut [T]) -> Option<&'b [T]>
         ensures value { option_map (λ l. l.now) result ≡ list_of T.value_of (length out.old) self.old }
         ensures rest { IfSome result (λ l. self.new ≡ after_words (length l.now + 1) self.old) }
+        ensures left { self.new ≡ after_values T.value_of (places (length out.old) self.old) (after_word self.old) }
     {
         let len = self.list_into(out)?;
         Some(&out[..len])

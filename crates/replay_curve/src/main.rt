@@ -6,9 +6,9 @@
 // and what curves and quadrature compute must be the number and have the bits of the floats.
 #![tactic(auto)]
 
-use curves::{Mean, curve};
+use curves::curve;
 use quadrature::orders::gh_order;
-use replay_cases::lent::kept;
+use replay_cases::lent::{kept, outputs};
 use replay_cases::replay::replay_input;
 use replay_cases::words::Words;
 use std::io;
@@ -21,10 +21,8 @@ fn judge_curve(words: &mut Words<'_>) -> Option<bool> {
     let values = words.list(&mut room)?;
     let dose = words.value()?;
     words.named(b"=")?;
-    let (number, floats) = match curve(code, values, dose) {
-        Ok(Mean { mu, d0, d1, d2, d3 }) => (0, [mu, d0, d1, d2, d3]),
-        Err(refusal) => (refusal.number(), [kept(); 5]),
-    };
+    let answer = curve(code, values, dose).map(|m| [m.mu, m.d0, m.d1, m.d2, m.d3]);
+    let (number, floats) = outputs(answer, [kept(); 5]);
     // `&` reads every word, also after one that differs.
     Some(words.says(number)? & words.says_each(&floats)?)
 }

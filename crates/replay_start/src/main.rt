@@ -5,7 +5,7 @@
 // and what self_start computes must be the number and have the bits of the values.
 #![tactic(auto)]
 
-use replay_cases::lent::kept;
+use replay_cases::lent::{kept, outputs};
 use replay_cases::replay::replay_input;
 use replay_cases::words::Words;
 use self_start::self_start;
@@ -22,10 +22,7 @@ fn judge(_name: &str, words: &mut Words<'_>) -> Option<bool> {
     let grams = words.list(&mut grams)?;
     let values = values.get_mut(..words.value()?)?;
     words.named(b"=")?;
-    let number = match self_start(code, doses, grams, values) {
-        Ok(()) => 0,
-        Err(refusal) => refusal.number(),
-    };
+    let (number, ()) = outputs(self_start(code, doses, grams, values), ());
     // `&` reads every word, also after one that differs.
     Some(words.says(number)? & words.says_list(values)?)
 }

@@ -1,6 +1,6 @@
 // 512 readings pass, 513 refuse 2; 32 groups pass, 33 refuse 3; equal bounds pass. What passes must answer as the published Rust
 // does, bit for bit, and what is refused must leave every bit of the lists that it was lent.
-use crate::calls::{Called, all_kept, criterion, fit, search, start};
+use crate::calls::{Called, Size, all_kept, criterion, fit, search, start};
 use crate::say::say;
 use criterion::profile::Profile;
 use fit::Fitted;
@@ -25,13 +25,11 @@ enum Expected {
     Refuses(Refusal),
 }
 
-// A call with n readings in m groups, where the second value is at most `top`.
+// A call of a size, in the document's words.
 #[derive(Clone, Copy)]
-struct Size {
-    weighing: &'static str,
-    n: usize,
-    m: usize,
-    top: f64,
+struct Weighing {
+    name: &'static str,
+    size: Size,
     expected: Expected,
 }
 
@@ -101,56 +99,66 @@ fn refuses<T>(c: &Called<T>, refusal: Refusal) -> bool {
 fn weigh_calls<
     W: Write,
     T: Copy,
-    C: Fn(usize, usize, f64) -> Option<Called<T>>,
+    C: Fn(Size) -> Option<Called<T>>,
     I: Fn(Limit, &Called<T>) -> bool,
 >(out: &mut W, name: &str, kept: &str, call: C, is: I) -> io::Result<()>
     requires call { C.IsAlwaysCallable call }
     requires is { I.IsAlwaysCallable is }
 {
-    let sizes = [
-        Size {
-            weighing: "512 readings pass",
-            n: 512,
-            m: 1,
-            top: 100.0,
+    let weighings = [
+        Weighing {
+            name: "512 readings pass",
+            size: Size {
+                n: 512,
+                m: 1,
+                top: 100.0,
+            },
             expected: Expected::Passes(Limit::Readings),
         },
-        Size {
-            weighing: "513 refuse 2",
-            n: 513,
-            m: 1,
-            top: 100.0,
+        Weighing {
+            name: "513 refuse 2",
+            size: Size {
+                n: 513,
+                m: 1,
+                top: 100.0,
+            },
             expected: Expected::Refuses(Refusal::Readings),
         },
-        Size {
-            weighing: "32 groups pass",
-            n: 64,
-            m: 32,
-            top: 100.0,
+        Weighing {
+            name: "32 groups pass",
+            size: Size {
+                n: 64,
+                m: 32,
+                top: 100.0,
+            },
             expected: Expected::Passes(Limit::Groups),
         },
-        Size {
-            weighing: "33 refuse 3",
-            n: 66,
-            m: 33,
-            top: 100.0,
+        Weighing {
+            name: "33 refuse 3",
+            size: Size {
+                n: 66,
+                m: 33,
+                top: 100.0,
+            },
             expected: Expected::Refuses(Refusal::Groups),
         },
-        Size {
-            weighing: "equal bounds pass",
-            n: 64,
-            m: 2,
-            top: 1.0,
+        Weighing {
+            name: "equal bounds pass",
+            size: Size {
+                n: 64,
+                m: 2,
+                top: 1.0,
+            },
             expected: Expected::Passes(Limit::Bounds),
         },
     ];
-    for size in sizes {
-        let c = call(size.n, size.m, size.top);
-        let (holds, kept) = match size.expected {
+    for weighing in weighings {
+        let c = call(weighing.size);
+        let (holds, kept) = match weighing.expected {
             Expected::Passes(limit) => (c.is_some_and(|c| is(limit, &c)), ""),
             Expected::Refuses(refusal) => (c.is_some_and(|c| refuses(&c, refusal)), kept),
         };
-        say(out, format_args!("{name}: {}{kept}", size.weighing), holds)?;
+        say(out, format_args!("{name}: {}{kept}", weighing.name), holds)?;
     }
     Ok(())
 }
