@@ -7,6 +7,7 @@ pub mod starts;
 ghost use Rattle.std.specs.Prelude.{◌≤◌, length, IfOk};
 
 use crate::starts::read_starts;
+use read_table::TableError;
 use read_table::fault::TableFault;
 use refit_options::options::{Asked, Command, Fit, OptionError, OptionFault, Page, Task};
 use refit_run::readings::{CANISTERS, READINGS, Readings};
@@ -42,9 +43,12 @@ struct Console<'a, R, O: Write, E: Write> {
     err: E,
 }
 
-// The name that faults of the readings are told with.
-fn source<'a>(fit: Fit<'a>) -> &'a [u8] {
-    fit.file.unwrap_or(b"the example")
+// What a run is asked for, the name that faults of its readings are told with, and the picture's.
+#[derive(Clone, Copy)]
+struct Job<'a> {
+    task: Task,
+    source: &'a [u8],
+    svg: Option<&'a [u8]>,
 }
 
 // The start values by hand.
@@ -59,6 +63,20 @@ fn given<'a>(fit: Fit<'a>) -> Result<Option<[f64; 4]>, OptionError<'a>> {
             fault: OptionFault::WrongStarts,
         }),
     }
+}
+
+fn job_of<'a>(fit: Fit<'a>) -> Result<Job<'a>, OptionError<'a>> {
+    let task = Task {
+        settings: fit.settings,
+        given: given(fit)?,
+        example: fit.file.is_none(),
+        picture: fit.svg.is_some(),
+    };
+    Ok(Job {
+        task,
+        source: fit.file.unwrap_or(b"the example"),
+        svg: fit.svg,
+    })
 }
 
 // A system's reason in words, without the number that std puts after them.
@@ -77,6 +95,15 @@ fn path(name: &[u8]) -> io::Result<&str> {
             io::ErrorKind::InvalidInput,
             "the file's name is no UTF-8 text",
         )),
+    }
+}
+
+// The line of a fault; a text without lines has none.
+fn line_of(e: TableError) -> Option<u64> {
+    if e.read.lines == 0 {
+        None
+    } else {
+        Some(e.read.lines)
     }
 }
 
@@ -113,11 +140,20 @@ impl<'a, R: Files + AllocGlobal, O: Write, E: Write> Console<'a, R, O, E> {
         self.complain(name, without_number(reason.as_str()).as_bytes())
     }
 
-    fn complain_of_word(&mut self, e: OptionError<'_>) -> io::Result<()> {
+    // `refit: `, what is at fault and what is written of it.
+    fn complain_in<F: FnOnce(&mut Text<'_>)>(&mut self, what: &[u8], write: F) -> io::Result<()>
+        requires { F.IsAlwaysCallable write }
+    {
         let mut room = [0u8; WORDS];
         let mut words = Text::new(&mut room);
-        refit_options::options::fault(&mut words, e.fault);
-        self.complain(e.word, words.written())
+        write(&mut words);
+        self.complain(what, words.written())
+    }
+
+    fn complain_of_word(&mut self, e: OptionError<'_>) -> io::Result<()> {
+        self.complain_in(e.word, |words| {
+            refit_options::options::fault(words, e.fault)
+        })
     }
 
     fn complain_of_line(
@@ -126,10 +162,9 @@ impl<'a, R: Files + AllocGlobal, O: Write, E: Write> Console<'a, R, O, E> {
         line: Option<u64>,
         fault: TableFault,
     ) -> io::Result<()> {
-        let mut room = [0u8; WORDS];
-        let mut words = Text::new(&mut room);
-        refit_options::words::line_fault(&mut words, line, fault);
-        self.complain(name, words.written())
+        self.complain_in(name, |words| {
+            refit_options::words::line_fault(words, line, fault)
+        })
     }
 
     fn print(&mut self, page: Page) -> io::Result<()> {
@@ -183,35 +218,24 @@ impl<'a, R: Files + AllocGlobal, O: Write, E: Write> Console<'a, R, O, E> {
     }
 
     // The report and the picture of readings.
-    fn refit(
-        &mut self,
-        fit: Fit<'_>,
-        given: Option<[f64; 4]>,
-        readings: &Readings<'_>,
-    ) -> io::Result<()> {
+    fn refit(&mut self, job: &Job<'_>, readings: &Readings<'_>) -> io::Result<()> {
         let mut out = [0u8; REPORT];
         let mut svg = [0u8; PICTURE];
         let mut report = Text::new(&mut out);
         let mut picture = Text::new(&mut svg);
-        let task = Task {
-            settings: fit.settings,
-            given,
-            example: fit.file.is_none(),
-            picture: fit.svg.is_some(),
-        };
-        match refit_run::run(&task, readings, &mut report, &mut picture) {
-            Err(fault) => self.complain_of_line(source(fit), None, fault),
-            Ok(()) => self.show(fit.svg, &report, &picture),
+        match refit_run::run(&job.task, readings, &mut report, &mut picture) {
+            Err(fault) => self.complain_of_line(job.source, None, fault),
+            Ok(()) => self.show(job.svg, &report, &picture),
         }
     }
 
-    fn from_text(&mut self, fit: Fit<'_>, given: Option<[f64; 4]>, text: &[u8]) -> io::Result<()> {
+    fn from_text(&mut self, job: &Job<'_>, text: &[u8]) -> io::Result<()> {
         let mut doses = [0.0; READINGS];
         let mut grams = [0.0; READINGS];
         let mut groups = [0; READINGS];
         let mut names = [Span { start: 0, stop: 0 }; CANISTERS];
         match read_table::read_table(text, &mut doses, &mut grams, &mut groups, &mut names) {
-            Err(e) => self.complain_of_line(source(fit), Some(e.read.lines), e.fault),
+            Err(e) => self.complain_of_line(job.source, line_of(e), e.fault),
             Ok(read) => {
                 let readings = Readings {
                     text,
@@ -221,13 +245,13 @@ impl<'a, R: Files + AllocGlobal, O: Write, E: Write> Console<'a, R, O, E> {
                     names: &names,
                     canisters: read.canisters,
                 };
-                self.refit(fit, given, &readings)
+                self.refit(job, &readings)
             }
         }
     }
 
     // The whole file, or the reason why it is not read.
-    fn from_file(&mut self, fit: Fit<'_>, given: Option<[f64; 4]>, name: &[u8]) -> io::Result<()> {
+    fn from_file(&mut self, job: &Job<'_>, name: &[u8]) -> io::Result<()> {
         let mut text = [0u8; FILE];
         match read_file(self.rt, name, &mut text) {
             Err(e) => self.fail(name, e),
@@ -235,15 +259,15 @@ impl<'a, R: Files + AllocGlobal, O: Write, E: Write> Console<'a, R, O, E> {
                 name,
                 b"the file is longer than 65536 bytes, or was not read whole",
             ),
-            Ok(n) => self.from_text(fit, given, &text[..n]),
+            Ok(n) => self.from_text(job, &text[..n]),
         }
     }
 
     fn fits(&mut self, fit: Fit<'_>) -> io::Result<()> {
-        match (given(fit), fit.file) {
+        match (job_of(fit), fit.file) {
             (Err(e), _) => self.complain_of_word(e),
-            (Ok(given), Some(name)) => self.from_file(fit, given, name),
-            (Ok(given), None) => self.from_text(fit, given, ORANGE),
+            (Ok(job), Some(name)) => self.from_file(&job, name),
+            (Ok(job), None) => self.from_text(&job, ORANGE),
         }
     }
 }

@@ -1,5 +1,5 @@
 -- Names and meanings in words. The values of the curves have the names that R's users know.
-use Rattle.std.specs.Prelude.{ℕ, Bool, cond, List, [], ◌∷◌, ◌++◌, ◌==◌, find, position, slice_index_or, codes, Option, Some, None}
+use Rattle.std.specs.Prelude.{ℕ, Bool, cond, List, [], ◌∷◌, ◌++◌, ◌==◌, find, position, slice_index_or, codes, Option, Some, None, is_some}
 use Rattle.std.specs.List.{list_any}
 use Rattle.std.specs.Str.{str_eq_ignore_ascii_case}
 use Rattle.text_buffer.specs.Text.{whole_text}
@@ -8,12 +8,6 @@ use Rattle.curves.specs.MeanFn.{code_of}
 use Rattle.refusal.specs.declared.Refusal.{Refusal}
 use Rattle.read_table.specs.declared.fault.TableFault.{TableFault}
 use Rattle.svg_axes.specs.Subject.{curve_name}
-
--- a word names a value of some curve, in capitals or small letters
-unfoldable pub is_name : List ℕ → Bool
-is_name word =
-    list_any (λ name. str_eq_ignore_ascii_case name word)
-    (codes "Asym" ∷ codes "xmid" ∷ codes "scal" ∷ codes "R0" ∷ codes "lrc" ∷ codes "Vm" ∷ codes "K" ∷ codes "A" ∷ codes "B" ∷ [])
 
 -- the names of a curve's values
 unfoldable pub names_of : ℕ → List (List ℕ)
@@ -26,6 +20,11 @@ names_of code =
 -- the place of a name among those of a curve's values
 unfoldable pub place_of : ℕ → List ℕ → Option ℕ
 place_of code word = position (λ name. str_eq_ignore_ascii_case name word) (names_of code)
+
+-- a word names a value of some curve, in capitals or small letters
+unfoldable pub is_name : List ℕ → Bool
+is_name word =
+    list_any (λ curve. is_some (place_of (code_of curve) word)) (Curve.Sslogis ∷ Curve.Ssasymp ∷ Curve.Ssmicmen ∷ Curve.Ssfpl ∷ [])
 
 -- a word is a curve's name
 abbrev pub is_curve : List ℕ → Curve → Bool

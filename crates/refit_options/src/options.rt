@@ -66,7 +66,7 @@ const FLAGS: [Flag; 9] = [
 ];
 
 // How the readings are fitted: the curve, the place of the effect among its values, restricted or plain maximum likelihood,
-// and the order of quadrature.
+// as a bool as the library takes it, and the order of quadrature.
 #[derive(Clone, Copy)]
 pub struct Settings {
     pub curve: Curve,
@@ -85,7 +85,8 @@ pub struct Fit<'a> {
 }
 
 // What a run is asked for: how the readings are fitted, from which start values by hand, whether the readings are the
-// example, and whether a picture is asked for.
+// example, and whether a picture is asked for. A Subject has the curve and the place too: svg_axes, whose it is, knows no
+// settings.
 #[derive(Clone, Copy)]
 pub struct Task {
     pub settings: Settings,

@@ -9,7 +9,7 @@ use read_table::fault::TableFault;
 use refusal::Refusal;
 use svg_axes::subject::curve_name;
 use text_buffer::Text;
-use text_lines::same::{find_word, is_among, same_word};
+use text_lines::same::{find_word, same_word};
 
 const CURVES: [Curve; 4] = [
     Curve::Sslogis,
@@ -17,19 +17,6 @@ const CURVES: [Curve; 4] = [
     Curve::Ssmicmen,
     Curve::Ssfpl,
 ];
-
-// Whether a word names a value of some curve.
-#[tactic(auto, unfolding(crate::specs::Words::is_name))]
-pub fn is_name(word: &[u8]) -> bool
-    ensures { result ≡ is_name word.now }
-{
-    is_among(
-        &[
-            b"Asym", b"xmid", b"scal", b"R0", b"lrc", b"Vm", b"K", b"A", b"B",
-        ],
-        word,
-    )
-}
 
 // The names of a curve's values.
 #[tactic(auto, unfolding(crate::specs::Words::names_of))]
@@ -50,6 +37,14 @@ pub fn place_of(curve: Curve, word: &[u8]) -> Option<usize>
     ensures { result ≡ place_of (code_of curve) word.now }
 {
     find_word(names(curve), word)
+}
+
+// Whether a word names a value of some curve.
+#[tactic(auto, unfolding(crate::specs::Words::is_name))]
+pub fn is_name(word: &[u8]) -> bool
+    ensures { result ≡ is_name word.now }
+{
+    CURVES.iter().any(|curve| place_of(*curve, word).is_some())
 }
 
 fn is_curve(curve: Curve, word: &[u8]) -> bool

@@ -16,7 +16,7 @@ use refit_calculation::{Answer, Refused, Step};
 use refit_options::options::Task;
 use refit_options::words::{name, refusal};
 use refit_tables::{canisters, readings};
-use refit_warnings::findings::Findings;
+use refit_warnings::findings::{Findings, Outcome};
 use refit_warnings::told::{first, lines};
 use svg_axes::subject::Subject;
 use text_buffer::Text;
@@ -216,34 +216,21 @@ fn begun(out: &mut Text<'_>, curve: Curve, given: bool, starts: &[f64], e: Refus
 }
 
 #[tactic(auto, using(text_buffer::specs::laws::Text::writing), unfolding(crate::specs::Report::without_text))]
-fn without(out: &mut Text<'_>, o: &Task, s: &Subject<'_>, starts: &[f64], e: Refused)
-    ensures { out.new ≡ wrote out.old (without_text o.now (shown s.now) starts.now e) }
+fn without(out: &mut Text<'_>, o: &Task, r: &Outcome<'_>, e: Refused)
+    ensures { out.new ≡ wrote out.old (without_text o.now (shown r.now.subject) r.now.starts.now e) }
 {
+    let s = &r.subject;
     beginning(out, o, s, false);
-    begun(out, s.curve, o.given.is_some(), starts, e);
+    begun(out, s.curve, o.given.is_some(), r.starts, e);
     refused(out, e);
 }
 
 #[tactic(auto, unfolding(crate::specs::Report::report_text))]
-pub fn report(
-    out: &mut Text<'_>,
-    o: &Task,
-    s: &Subject<'_>,
-    starts: &[f64],
-    answer: Result<Answer, Refused>,
-)
-    ensures { out.new ≡ wrote out.old (report_text o.now (shown s.now) starts.now answer) }
+pub fn report(out: &mut Text<'_>, o: &Task, r: &Outcome<'_>)
+    ensures { out.new ≡ wrote out.old (report_text o.now (shown r.now.subject) r.now.starts.now r.now.answer) }
 {
-    match answer {
-        Ok(refit) => {
-            let f = Findings {
-                subject: *s,
-                starts,
-                n_agq: o.settings.n_agq,
-                refit,
-            };
-            told(out, o, &f);
-        }
-        Err(e) => without(out, o, s, starts, e),
+    match r.answer {
+        Ok(refit) => told(out, o, &r.found(o.settings.n_agq, refit)),
+        Err(e) => without(out, o, r, e),
     }
 }

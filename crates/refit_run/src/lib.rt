@@ -16,40 +16,30 @@ use read_table::fault::TableFault;
 use refit_calculation::{Answer, Refused, Request, refit, refit_from};
 use refit_options::options::Task;
 use refit_report::report;
-use refit_warnings::findings::Findings;
+use refit_warnings::findings::Outcome;
 use refit_warnings::told::{first, title};
 use svg_axes::subject::Subject;
 use text_buffer::Text;
 
 // The picture of a refit, where one is asked for and there is a fit.
 #[tactic(auto, unfolding(crate::specs::Run::picture_of))]
-fn picture(
-    svg: &mut Text<'_>,
-    o: &Task,
-    subject: &Subject<'_>,
-    starts: &[f64],
-    answer: Result<Answer, Refused>,
-)
-    ensures { svg.new ≡ picture_of o.now (shown subject.now) starts.now answer svg.old }
+fn picture(svg: &mut Text<'_>, o: &Task, r: &Outcome<'_>)
+    ensures { svg.new ≡ picture_of o.now (shown r.now.subject) r.now.starts.now r.now.answer svg.old }
 {
     if !o.picture {
         return;
     }
-    match answer {
+    match r.answer {
         Ok(refit) => {
-            let found = Findings {
-                subject: *subject,
-                starts,
-                n_agq: o.settings.n_agq,
-                refit,
-            };
-            svg_picture::draw(svg, subject, o.example, title(first(&found)));
+            let found = r.found(o.settings.n_agq, refit);
+            svg_picture::draw(svg, &r.subject, o.example, title(first(&found)));
         }
         Err(_) => {}
     }
 }
 
-// The report and the picture of a refit.
+// The report and the picture of a refit. Lent one by one: the borrow checker does not cover an Outcome that `answer` makes of
+// its own lists beside those that are lent to it.
 fn told(
     o: &Task,
     subject: &Subject<'_>,
@@ -60,8 +50,13 @@ fn told(
 )
     ensures { (out.new, svg.new) ≡ told_of o.now (shown subject.now) starts.now answer out.old svg.old }
 {
-    report(out, o, subject, starts, answer);
-    picture(svg, o, subject, starts, answer);
+    let outcome = Outcome {
+        subject: *subject,
+        starts,
+        answer,
+    };
+    report(out, o, &outcome);
+    picture(svg, o, &outcome);
 }
 
 // The refit from the start values that are given, or from the readings' own. The lists are lent one by one, as `refit` takes

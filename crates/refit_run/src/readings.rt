@@ -5,8 +5,8 @@ pub const READINGS: usize = 512;
 
 pub const CANISTERS: usize = 32;
 
-// Readings, each of a canister; where the canisters' names stand in the text, and how many canisters there are. A list for
-// each, as a fit takes them.
+// Readings, each of a canister; where the canisters' names stand in the text, and how many canisters there are: a canister
+// need have no name. A list for each, as a fit takes them.
 #[derive(Clone, Copy)]
 pub struct Readings<'a> {
     pub text: &'a [u8],

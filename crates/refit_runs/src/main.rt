@@ -66,6 +66,9 @@ fn refused<R: Files + AllocGlobal>(rt: &R, out: Stdout) -> io::Result<()> {
     shown(rt, out, b"density_first.csv\0")?;
     shown(rt, out, b"hash.csv\0")?;
     shown(rt, out, b"comma.csv\0")?;
+    // No bytes, and a byte order mark alone: there is no line that could be named.
+    shown(rt, out, b"empty.csv\0")?;
+    shown(rt, out, b"mark.csv\0")?;
     shown(rt, out, b"--ml\0machine.csv\0--reml\0")?;
     shown(rt, out, b"machine.csv\0--start\01,2\0")?;
     shown(rt, out, b"--effect\0K\0")?;

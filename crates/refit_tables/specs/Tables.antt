@@ -24,20 +24,24 @@ decimals_for size = cond (lt size (bits 0x3ee4_f8b5_88e3_68f1)) 6 (decimals_of s
 -- ---- each canister
 
 -- the canister's own value: where the effect stands, with it
-unfoldable pub own_text : Shown → Float → ℕ → List ℕ
-own_text s effect i =
-    let value = get_or s.values i nan in
-    cell_text 13 (fixed_text (cond (eqb i s.place) (add value effect) value) (decimals_for (abs_of value)))
+abbrev pub own_at : Shown → Float → Float → ℕ → List ℕ
+own_at s effect value i = cell_text 13 (fixed_text (cond (eqb i s.place) (add value effect) value) (decimals_for (abs_of value)))
 
-unfoldable pub canister_row : Shown → ℕ → List ℕ
-canister_row s g =
-    let effect = get_or s.effects g nan in
+unfoldable pub own_text : Shown → Float → ℕ → List ℕ
+own_text s effect i = own_at s effect (get_or s.values i nan) i
+
+-- the row of canister g, whose effect this is
+unfoldable pub row_of : Shown → Float → ℕ → List ℕ
+row_of s effect g =
     joined (
     canister_text s g
     ∷ cell_text 13 (fixed_text effect (decimals_for (abs_of (get_or s.values s.place nan))))
     ∷ each (own_text s effect) (length s.values)
     ∷ codes "\n"
     ∷ [])
+
+unfoldable pub canister_row : Shown → ℕ → List ℕ
+canister_row s g = row_of s (get_or s.effects g nan) g
 
 -- what stands over the values of each curve, by its code, from 1
 abbrev pub heads : List (List ℕ)

@@ -6,7 +6,7 @@ ghost use Rattle.curves.specs.MeanFn.{code_of};
 ghost use Rattle.text_buffer.specs.Text.{wrote};
 ghost use Rattle.svg_axes.specs.Subject.{shown};
 ghost use Rattle.svg_marks.specs.Escape.{each};
-ghost use Rattle.refit_tables.specs.Tables.{name_text, canister_text, decimals_for, own_text, canister_row, heads_of, canisters_text, reading_row, reading_rows, readings_text};
+ghost use Rattle.refit_tables.specs.Tables.{name_text, canister_text, decimals_for, own_at, own_text, row_of, canister_row, heads_of, canisters_text, reading_row, reading_rows, readings_text};
 
 use curves::Curve;
 use svg_axes::curve_at;
@@ -44,30 +44,27 @@ fn decimals_for(size: f64) -> u64
 }
 
 // Value i of a canister: where the effect stands, with it.
-#[tactic(auto, unfolding(crate::specs::Tables::own_text))]
-fn own_value(out: &mut Text<'_>, s: &Subject<'_>, effect: f64, i: usize)
-    ensures { out.new ≡ wrote out.old (own_text (shown s.now) effect i) }
+fn own_value(out: &mut Text<'_>, s: &Subject<'_>, effect: f64, value: f64, i: usize)
+    ensures { out.new ≡ wrote out.old (own_at (shown s.now) effect value i) }
 {
-    let value = math::at(s.values, i);
     let own = if i == s.place { value + effect } else { value };
     columns::fixed(out, 13, own, decimals_for(math::abs(value)));
 }
 
 // A loop of one call, as of canister_rows and of svg_picture's canisters: each calls a function of its own.
-#[tactic(auto, using(svg_marks::proofs::Laws::running))]
+#[tactic(auto, using(svg_marks::proofs::Laws::running), unfolding(crate::specs::Tables::own_text))]
 fn own_values(out: &mut Text<'_>, s: &Subject<'_>, effect: f64)
     ensures { out.new ≡ wrote out.old (each (own_text (shown s.now) effect) (length s.now.values.now)) }
 {
-    for i in 0..s.values.len() {
-        own_value(out, s, effect, i);
+    for (i, &value) in s.values.iter().enumerate() {
+        own_value(out, s, effect, value, i);
     }
 }
 
-#[tactic(auto, using(text_buffer::specs::laws::Text::writing), unfolding(crate::specs::Tables::canister_row))]
-fn canister_row(out: &mut Text<'_>, s: &Subject<'_>, g: usize)
-    ensures { out.new ≡ wrote out.old (canister_row (shown s.now) g) }
+#[tactic(auto, using(text_buffer::specs::laws::Text::writing), unfolding(crate::specs::Tables::row_of))]
+fn canister_row(out: &mut Text<'_>, s: &Subject<'_>, effect: f64, g: usize)
+    ensures { out.new ≡ wrote out.old (row_of (shown s.now) effect g) }
 {
-    let effect = math::at(s.effects, g);
     let d = decimals_for(math::abs(math::at(s.values, s.place)));
     canister(out, s, g);
     columns::fixed(out, 13, effect, d);
@@ -75,12 +72,12 @@ fn canister_row(out: &mut Text<'_>, s: &Subject<'_>, g: usize)
     out.put(b"\n");
 }
 
-#[tactic(auto, using(svg_marks::proofs::Laws::running))]
+#[tactic(auto, using(svg_marks::proofs::Laws::running), unfolding(crate::specs::Tables::canister_row))]
 fn canister_rows(out: &mut Text<'_>, s: &Subject<'_>)
     ensures { out.new ≡ wrote out.old (each (canister_row (shown s.now)) (length s.now.effects.now)) }
 {
-    for g in 0..s.effects.len() {
-        canister_row(out, s, g);
+    for (g, &effect) in s.effects.iter().enumerate() {
+        canister_row(out, s, effect, g);
     }
 }
 

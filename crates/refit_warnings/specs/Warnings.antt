@@ -9,6 +9,7 @@ use Rattle.svg_axes.specs.Subject.{Shown, shown}
 use Rattle.refit_calculation.specs.declared.Answer.{Answer}
 use Rattle.refit_warnings.specs.declared.Sum.{Sum}
 use Rattle.refit_warnings.specs.declared.findings.Findings.{Findings}
+use Rattle.refit_warnings.specs.declared.findings.Outcome.{Outcome}
 use Rattle.refit_warnings.specs.declared.findings.Warning.{Warning}
 use Rattle.refit_warnings.specs.declared.findings.Warning.TheVariants.{Unmoved, Search, Fit, Step, Nothing, Few, Low, High, Alone, Quadrature}
 
@@ -18,6 +19,10 @@ pub record Results : Type 0 where
   pub starts : List Float
   pub n_agq : ℕ
   pub refit : Answer
+
+-- the findings of an outcome, where it is an answer
+abbrev pub found_of : Outcome → ℕ → Answer → Findings
+found_of o n_agq refit = record { subject = o.subject; starts = o.starts; n_agq = n_agq; refit = refit }
 
 abbrev pub results : Findings → Results
 results f = record { shown = shown f.subject; starts = f.starts.now; n_agq = f.n_agq; refit = f.refit }

@@ -8,7 +8,7 @@ ghost use Rattle.std.specs.Prelude.{◌≡◌};
 ghost use Rattle.std.specs.List.{list_any};
 ghost use Rattle.std.specs.Float.Ieee.{eq};
 ghost use Rattle.curves.specs.MeanFn.{code_of};
-ghost use Rattle.refit_warnings.specs.Warnings.{added_of, sum_of, mean_of, square_of, constant_rss, explains_nothing, is_unmoved, is_step, distinct_of, too_few, results, warns};
+ghost use Rattle.refit_warnings.specs.Warnings.{sum_of, mean_of, square_of, constant_rss, explains_nothing, is_unmoved, is_step, distinct_of, too_few, results, warns};
 
 use crate::findings::{Findings, Warning};
 use curves::Curve;
@@ -21,19 +21,6 @@ pub struct Sum {
     pub total: f64,
 }
 
-fn added(s: Sum, is: bool, grams: f64) -> Sum
-    ensures { result ≡ added_of s is grams }
-{
-    if is {
-        Sum {
-            count: s.count + 1.0,
-            total: s.total + grams,
-        }
-    } else {
-        s
-    }
-}
-
 // The readings of canister g. By index and no zip: where grams are missing, `at` says NaN.
 #[tactic(auto, using(math::specs::laws::Loops::iter_zero, math::specs::laws::Loops::iter_next), unfolding(crate::specs::Warnings::sum_of))]
 fn readings_of(s: &Subject<'_>, g: usize) -> Sum
@@ -44,7 +31,10 @@ fn readings_of(s: &Subject<'_>, g: usize) -> Sum
         total: 0.0,
     };
     for (i, &of) in s.group.iter().enumerate() {
-        sum = added(sum, of == g, math::at(s.grams, i));
+        if of == g {
+            sum.count += 1.0;
+            sum.total += math::at(s.grams, i);
+        }
     }
     sum
 }
@@ -113,8 +103,8 @@ fn distinct(doses: &[f64]) -> usize
     ensures { result ≡ distinct_of doses.now }
 {
     let mut n = 0;
-    for i in 0..doses.len() {
-        if !is_among(&doses[..i], doses[i]) {
+    for (i, &dose) in doses.iter().enumerate() {
+        if !is_among(&doses[..i], dose) {
             n += 1;
         }
     }
