@@ -97,13 +97,13 @@ held_effects k x y p q = cond_both (eqb k 2) (x ∷ y ∷ []) (x ∷ []) Held (�
 effects_length : (k : ℕ) (x y : Float) → 1 ≤ k → k ≤ 2 → length (effects_of k x y) ≡ k
 effects_length k x y p q = rw (← effects_take k x y p q, length-take) (omega arith)
 
-module _ (p k groups : ℕ) (x : List Float) (solved : List Solution) (four : Four x) where
-  components_held : Held (components_of p k groups x solved)
+module _ (p k group_count : ℕ) (x : List Float) (solved : List Solution) (four : Four x) where
+  components_held : Held (components_of p k group_count x solved)
   unfolding components_of Four
   components_held =
       from_keeps Held (append_group p k x solved)
       (λ g l h. held_append l (effects_of k (sub _ _) (sub _ _)) h (held_effects k (sub _ _) (sub _ _) (sub-fits binary64 _ _) (sub-fits binary64 _ _)))
-      0 (groups - 0) (take p x) (held_take p x four.1)
+      0 (group_count - 0) (take p x) (held_take p x four.1)
 
   -- after n groups
   so_far : (n : ℕ) → p ≤ 4 → 1 ≤ k → k ≤ 2 → length (from (append_group p k x solved) 0 n (take p x)) ≡ p + n * k
@@ -113,14 +113,14 @@ module _ (p k groups : ℕ) (x : List Float) (solved : List Solution) (four : Fo
       let h = so_far n a b c in
       rw (length-append, effects_length k _ _ b c, h, suc-mul) (omega arith)
 
-  components_length : p ≤ 4 → 1 ≤ k → k ≤ 2 → length (components_of p k groups x solved) ≡ p + groups * k
+  components_length : p ≤ 4 → 1 ≤ k → k ≤ 2 → length (components_of p k group_count x solved) ≡ p + group_count * k
   unfolding components_of
-  components_length a b c = let e : groups - 0 ≡ groups = omega arith in rw e (so_far groups a b c)
+  components_length a b c = let e : group_count - 0 ≡ group_count = omega arith in rw e (so_far group_count a b c)
 
 -- ---- the direction
 
-pub record Sound (p k groups : ℕ) (d : List Float) : Type 0 where
-  pub size : length d ≡ p + groups * k
+pub record Sound (p k group_count : ℕ) (d : List Float) : Type 0 where
+  pub size : length d ≡ p + group_count * k
   pub finite : every is_finite d ≡ true
   pub held : Held d
 
@@ -130,38 +130,38 @@ finite_is (Some l) d h =
     let r = cond_some (every is_finite l) l d h in
     (rw r.1 at r.0, ap Some r.1)
 
-module _ (p k groups : ℕ) (a : p ≤ 4) (b : 1 ≤ k) (c : k ≤ 2) where
+module _ (p k group_count : ℕ) (a : p ≤ 4) (b : 1 ≤ k) (c : k ≤ 2) where
   abbrev Made : List Float → Type 0
-  Made d = (length d ≡ p + groups * k) × Held d
+  Made d = (length d ≡ p + group_count * k) × Held d
 
-  made : (e : Eliminated) (o : Option (List Float)) → IfSome o Four → IfSome (option_map (λ x. components_of p k groups x e.solved) o) Made
+  made : (e : Eliminated) (o : Option (List Float)) → IfSome o Four → IfSome (option_map (λ x. components_of p k group_count x e.solved) o) Made
   made e None h = tt
-  made e (Some x) h = (components_length p k groups x e.solved h a b c, components_held p k groups x e.solved h)
+  made e (Some x) h = (components_length p k group_count x e.solved h a b c, components_held p k group_count x e.solved h)
 
-  finished : (o : Option Eliminated) → IfSome (option_and_then (after_groups p k groups) o) Made
+  finished : (o : Option Eliminated) → IfSome (option_and_then (after_groups p k group_count) o) Made
   finished None = tt
   finished (Some e) = made e (solve_of p e.s) (solve_four p e.s)
 
-pub direction_sound : (n : BlockNormal) (p k groups : ℕ) (t : Float) (d : List Float) → p ≤ 4 → 1 ≤ k → k ≤ 2
-    → direction_of n p k groups t ≡ Some d → Sound p k groups d
+pub direction_sound : (n : BlockNormal) (p k group_count : ℕ) (t : Float) (d : List Float) → p ≤ 4 → 1 ≤ k → k ≤ 2
+    → direction_of n p k group_count t ≡ Some d → Sound p k group_count d
 unfolding direction_of finished_of
-direction_sound n p k groups t d a b c h =
-    let f = finite_is (finished_of n p k groups t) d h in
-    let m = rw f.1 at (finished p k groups a b c (eliminated_of n p k groups t)) in
+direction_sound n p k group_count t d a b c h =
+    let f = finite_is (finished_of n p k group_count t) d h in
+    let m = rw f.1 at (finished p k group_count a b c (eliminated_of n p k group_count t)) in
     record { size = m.0; finite = f.0; held = m.1 }
 
 -- each component of a direction is finite
-pub direction_finite : (n : BlockNormal) (p k groups : ℕ) (t : Float) (d : List Float) (i : ℕ) → direction_of n p k groups t ≡ Some d → i < length d
+pub direction_finite : (n : BlockNormal) (p k group_count : ℕ) (t : Float) (d : List Float) (i : ℕ) → direction_of n p k group_count t ≡ Some d → i < length d
     → is_finite (get_or d i nan) ≡ true
 unfolding direction_of
-direction_finite n p k groups t d i h q = every_at is_finite d i nan (finite_is (finished_of n p k groups t) d h).0 q
+direction_finite n p k group_count t d i h q = every_at is_finite d i nan (finite_is (finished_of n p k group_count t) d h).0 q
 
 -- what `solve` answers and leaves, by the direction
-pub direction_left : (n : BlockNormal) (p k groups : ℕ) (t : Float) (d out : List Float) → direction_of n p k groups t ≡ Some d
-    → left_in (finished_of n p k groups t) out ≡ d
+pub direction_left : (n : BlockNormal) (p k group_count : ℕ) (t : Float) (d out : List Float) → direction_of n p k group_count t ≡ Some d
+    → left_in (finished_of n p k group_count t) out ≡ d
 unfolding direction_of
-direction_left n p k groups t d out h = ap (λ o. left_in o out) (finite_is (finished_of n p k groups t) d h).1
+direction_left n p k group_count t d out h = ap (λ o. left_in o out) (finite_is (finished_of n p k group_count t) d h).1
 
-pub direction_answer : (n : BlockNormal) (p k groups : ℕ) (t : Float) → is_direction (finished_of n p k groups t) ≡ is_some (direction_of n p k groups t)
+pub direction_answer : (n : BlockNormal) (p k group_count : ℕ) (t : Float) → is_direction (finished_of n p k group_count t) ≡ is_some (direction_of n p k group_count t)
 unfolding direction_of
-direction_answer n p k groups t = refl
+direction_answer n p k group_count t = refl

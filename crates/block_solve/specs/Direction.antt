@@ -59,16 +59,16 @@ abbrev pub untouched : System → Eliminated
 untouched s = record { s = s; solved = replicate 32 (record { pair = (zero, zero); columns = replicate 4 (zero, zero) }) }
 
 unfoldable pub eliminated_of : BlockNormal → ℕ → ℕ → ℕ → Float → Option Eliminated
-eliminated_of n p k groups t = tries (group_turn n p k t) groups (untouched (damped_fixed n p t))
+eliminated_of n p k group_count t = tries (group_turn n p k t) group_count (untouched (damped_fixed n p t))
 
 -- ---- the direction
 
 abbrev pub after_groups : ℕ → ℕ → ℕ → Eliminated → Option (List Float)
-after_groups p k groups e = option_map (λ x. components_of p k groups x e.solved) (solve_of p e.s)
+after_groups p k group_count e = option_map (λ x. components_of p k group_count x e.solved) (solve_of p e.s)
 
 -- the finished direction, none at an exactly zero pivot anywhere
 unfoldable pub finished_of : BlockNormal → ℕ → ℕ → ℕ → Float → Option (List Float)
-finished_of n p k groups t = option_and_then (after_groups p k groups) (eliminated_of n p k groups t)
+finished_of n p k group_count t = option_and_then (after_groups p k group_count) (eliminated_of n p k group_count t)
 
 -- the direction: none also where a component of the finished one is not finite
 abbrev pub all_or_none : List Float → Option (List Float)
@@ -78,16 +78,16 @@ abbrev pub finite_only : Option (List Float) → Option (List Float)
 finite_only = option_and_then all_or_none
 
 unfoldable pub direction_of : BlockNormal → ℕ → ℕ → ℕ → Float → Option (List Float)
-direction_of n p k groups t = finite_only (finished_of n p k groups t)
+direction_of n p k group_count t = finite_only (finished_of n p k group_count t)
 
 -- ---- what `solve` answers and leaves in the list that it is lent
 
 -- the sizes that there is a place for, with a list of just the direction's length
 abbrev pub fitting : ℕ → ℕ → ℕ → ℕ → Bool
-fitting p k groups size = fits p k groups && eqb size (p + groups * k)
+fitting p k group_count size = fits p k group_count && eqb size (p + group_count * k)
 
 unfoldable pub solved_of : BlockNormal → ℕ → ℕ → ℕ → Float → ℕ → Option (List Float)
-solved_of n p k groups t size = cond (fitting p k groups size) (finished_of n p k groups t) None
+solved_of n p k group_count t size = cond (fitting p k group_count size) (finished_of n p k group_count t) None
 
 -- whether there is a direction, and what is left in the list
 abbrev pub is_direction : Option (List Float) → Bool

@@ -80,8 +80,8 @@ abbrev pub prior_turn : ℕ → List (List Float) → List Float → ℕ → Blo
 prior_turn k m b g n = prior_group m g k (part (g * k) k b) n
 
 unfoldable pub add_priors : ℕ → ℕ → List (List Float) → List Float → BlockNormal → BlockNormal
-add_priors k groups m b n = iter (prior_turn k m b) groups n
+add_priors k group_count m b n = iter (prior_turn k m b) group_count n
 
 -- effects for which there is no place add nothing
 unfoldable pub prior_of : ℕ → ℕ → List (List Float) → List Float → BlockNormal → BlockNormal
-prior_of k groups m b n = cond (leb k 2 && leb groups 32 && eqb (length b) (groups * k)) (add_priors k groups m b n) n
+prior_of k group_count m b n = cond (leb k 2 && leb group_count 32 && eqb (length b) (group_count * k)) (add_priors k group_count m b n) n

@@ -55,7 +55,7 @@ impl BlockNormal {
 
     // None at a pivot that is exactly zero.
     fn eliminate_groups(&self, shape: Shape, damping: f64) -> Option<Eliminated>
-        ensures { result ≡ eliminated_of self.now shape.p shape.k shape.groups damping }
+        ensures { result ≡ eliminated_of self.now shape.p shape.k shape.group_count damping }
     {
         let none = Solution {
             pair: (0.0, 0.0),
@@ -65,7 +65,7 @@ impl BlockNormal {
             s: self.damped_fixed(shape, damping),
             solved: [none; 32],
         };
-        for g in 0..shape.groups {
+        for g in 0..shape.group_count {
             let group = self.group(g, damping);
             let solution = group.solve(shape)?;
             group.reduce(&mut e.s, shape, &solution);
@@ -77,10 +77,17 @@ impl BlockNormal {
     // Whether there is a direction for p curve values, k effects and groups groups, whatever they are, so no Shape; it is then in out.
     // A zero pivot and arguments that do not fit leave out as it was.
     // A flag beside the lent list: of an Option<&[f64]> that lends it back, what out ends as takes an ensures*, which has no proof here.
-    pub fn solve(self, p: usize, k: usize, groups: usize, damping: f64, out: &mut [f64]) -> bool
-        ensures { (result ≡ is_direction (solved_of self p k groups damping (length out.old))) × (out.new ≡ left_in (solved_of self p k groups damping (length out.old)) out.old) }
+    pub fn solve(
+        self,
+        p: usize,
+        k: usize,
+        group_count: usize,
+        damping: f64,
+        out: &mut [f64],
+    ) -> bool
+        ensures { (result ≡ is_direction (solved_of self p k group_count damping (length out.old))) × (out.new ≡ left_in (solved_of self p k group_count damping (length out.old)) out.old) }
     {
-        let Some(shape) = Shape::new(p, k, groups) else {
+        let Some(shape) = Shape::new(p, k, group_count) else {
             return false;
         };
         if out.len() != shape.size() {

@@ -118,15 +118,15 @@ impl BlockNormal {
     pub fn add_prior(
         mut self,
         k: usize,
-        groups: usize,
+        group_count: usize,
         inverse: [[f64; 2]; 2],
         b: &[f64],
     ) -> BlockNormal
-        ensures { result ≡ prior_of k groups inverse b.now self }
+        ensures { result ≡ prior_of k group_count inverse b.now self }
     {
-        if k <= 2 && groups <= 32 && b.len() == groups * k {
+        if k <= 2 && group_count <= 32 && b.len() == group_count * k {
             // By index: g is a place in the flat arrays too, and k may be 0 here, where `chunks_exact` stops.
-            for g in 0..groups {
+            for g in 0..group_count {
                 let from = g * k;
                 self.add_group_prior(g, inverse, &b[from..from + k]);
             }

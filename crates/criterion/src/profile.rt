@@ -129,8 +129,8 @@ pub fn profile_objective(at: &Estimate<'_>, rss: f64, reml: bool, n_agq: u64) ->
     let sigma2 = variance(scalar, rss, pen, df);
     let terms = Terms {
         n,
-        m: q.groups,
-        k: q.effects.len(),
+        m: q.group_count,
+        k: q.places.len(),
         p,
         df,
         sigma2,

@@ -106,11 +106,11 @@ module _ (q : Problem) (values : List Float) (sigma2 : Float) (order : ℕ) wher
   -- at the effects b of all groups
   module _ (b : List Float) where
     unfoldable pub group_at : ℕ → Float → Option Float
-    group_at g t = add_group (own_of q.group g q.doses) (own_of q.group g q.grams) (part (g * k q) (k q) b) t
+    group_at g t = add_group (own_of q.groups g q.doses) (own_of q.groups g q.grams) (part (g * k q) (k q) b) t
 
     -- the groups in order, from 0; none where one of them is, whatever came before it
     unfoldable pub groups_of : Option Float
-    groups_of = tries group_at q.groups zero
+    groups_of = tries group_at q.group_count zero
 
 -- none also where no rule applies
 unfoldable pub agq_of : Problem → List Float → List Float → Float → ℕ → Option Float

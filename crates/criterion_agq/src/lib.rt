@@ -122,12 +122,12 @@ struct Quadrature<'a> {
 impl Quadrature<'_> {
     fn misfit(&self, group: &Group<'_>) -> Misfit
         ensures rss { result.rss ≡ group_squares (checked self.now.at.now.problem.now) self.now.at.now.values group.now.b.now group.now.doses.now group.now.grams.now }
-        ensures pen { result.pen ≡ penalty_of (length self.now.at.now.problem.now.effects.now) self.now.at.now.problem.now.theta.now group.now.b.now }
+        ensures pen { result.pen ≡ penalty_of (length self.now.at.now.problem.now.places.now) self.now.at.now.problem.now.theta.now group.now.b.now }
     {
         let q = self.at.problem;
         Misfit {
             rss: self.at.squares(group),
-            pen: re_penalty(q.effects.len(), q.theta, group.b),
+            pen: re_penalty(q.places.len(), q.theta, group.b),
         }
     }
 
@@ -137,7 +137,7 @@ impl Quadrature<'_> {
         ensures { result.items ≡ terms_of (checked self.now.at.now.problem.now) self.now.at.now.values self.now.sigma2 self.now.order
             group.now.doses.now group.now.grams.now group.now.b.now scaling }
     {
-        let k = self.at.problem.effects.len();
+        let k = self.at.problem.places.len();
         let hat = self.misfit(group);
         let mut terms = ArrayVec::new();
         for t in 0..node_count(k, self.order) {
@@ -163,7 +163,7 @@ impl Quadrature<'_> {
             return Some(total);
         }
         let q = self.at.problem;
-        let k = q.effects.len();
+        let k = q.places.len();
         let sigma2 = self.sigma2;
         let inverse = sigma_inv_from_theta(k, q.theta);
         let curvature = self.at.block(group.b, group.doses, inverse, |x| x / sigma2);
@@ -179,12 +179,12 @@ impl Quadrature<'_> {
     // The sum so far, with that of group g.
     #[tactic(auto, using(criterion_groups::specs::laws::Groups::own_as_long), unfolding(crate::specs::Agq::group_at))]
     fn group(&self, g: usize, total: f64) -> Option<f64>
-        requires { g < self.now.at.now.problem.now.groups }
+        requires { g < self.now.at.now.problem.now.group_count }
         ensures { result ≡ group_at (checked self.now.at.now.problem.now) self.now.at.now.values self.now.sigma2 self.now.order self.now.at.now.b.now g total }
     {
         let q = self.at.problem;
-        let doses = own_readings(q.group, g, q.doses);
-        let grams = own_readings(q.group, g, q.grams);
+        let doses = own_readings(q.groups, g, q.doses);
+        let grams = own_readings(q.groups, g, q.grams);
         let group = Group {
             doses: doses.as_slice(),
             grams: grams.as_slice(),
@@ -199,7 +199,7 @@ impl Quadrature<'_> {
         ensures { result ≡ groups_of (checked self.now.at.now.problem.now) self.now.at.now.values self.now.sigma2 self.now.order self.now.at.now.b.now }
     {
         let mut total = 0.0;
-        for g in 0..self.at.problem.groups {
+        for g in 0..self.at.problem.group_count {
             total = self.group(g, total)?;
         }
         Some(total)
@@ -211,7 +211,7 @@ impl Quadrature<'_> {
 pub fn agq_correction(at: &Estimate<'_>, sigma2: f64, n_agq: u64) -> Option<f64>
     ensures { result ≡ agq_of (checked at.now.problem.now) at.now.values at.now.b.now sigma2 n_agq }
 {
-    let order = resolve_gh_order_product(n_agq, at.problem.effects.len())?;
+    let order = resolve_gh_order_product(n_agq, at.problem.places.len())?;
     let rule = Quadrature { at, sigma2, order };
     rule.groups()
 }

@@ -17,9 +17,9 @@ use Rattle.criterion_groups.specs.Groups.{own_of, curve_at, group_squares}
 abbrev pub own_next : ℕ → List Float → ℕ × Float → List Float
 own_next g own p = cond (eqb p.0 g) (own ++ (p.1 ∷ [])) own
 
-pub own_zip : (group : List ℕ) (g : ℕ) (list : List Float) → length group ≤ length list → own_of group g list ≡ fold (own_next g) [] (zip group list)
+pub own_zip : (groups : List ℕ) (g : ℕ) (list : List Float) → length groups ≤ length list → own_of groups g list ≡ fold (own_next g) [] (zip groups list)
 unfolding own_of
-own_zip group g list p = iter_zip (λ h x own. own_next g own (h, x)) 0 nan group list [] p
+own_zip groups g list p = iter_zip (λ h x own. own_next g own (h, x)) 0 nan groups list [] p
 
 -- a reading, its dose and its grams
 abbrev pub square_next : Problem → List Float → List Float → Float → Float × Float → Float

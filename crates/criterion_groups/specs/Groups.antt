@@ -16,20 +16,20 @@ count_of n = of_int binary64 (pos n)
 
 -- `group_obs`: what the list l has at the readings of group g, in reading order
 abbrev pub own_at : List ℕ → ℕ → List Float → ℕ → List Float → List Float
-own_at group g l i own = cond (eqb (get_or group i 0) g) (own ++ (get_or l i nan ∷ [])) own
+own_at groups g l i own = cond (eqb (get_or groups i 0) g) (own ++ (get_or l i nan ∷ [])) own
 
 unfoldable pub own_of : List ℕ → ℕ → List Float → List Float
-own_of group g l = iter (own_at group g l) (length group) []
+own_of groups g l = iter (own_at groups g l) (length groups) []
 
 -- at the curve values of a list, with effects b
 module _ (q : Problem) (values b : List Float) where
   -- the curve at dose x
   abbrev pub curve_at : Float → Mean
-  curve_at x = eval_with_re_of q.code values q.effects b x
+  curve_at x = eval_with_re_of q.code values q.places b x
 
   -- its gradients by the effects; for one effect the second is +0
   unfoldable pub gradients_at : Float → List Float
-  gradients_at x = random_gradients q.effects (curve_at x)
+  gradients_at x = random_gradients q.places (curve_at x)
 
   -- the rss of some readings: the squares in their order, from 0
   abbrev pub residual_at : List Float → List Float → ℕ → Float

@@ -14,13 +14,13 @@ use fit_refusals::{MAX_READINGS, NlmmProblem};
 
 // What a list has at the readings of group g, in their order.
 #[tactic(auto, using(crate::proofs::Laws::own_zip))]
-pub fn own_readings(group: &[usize], g: usize, list: &[f64]) -> ArrayVec<f64, MAX_READINGS>
-    requires many { length group.now ≤ 512 }
-    requires each { length group.now ≤ length list.now }
-    ensures { result.items ≡ own_of group.now g list.now }
+pub fn own_readings(groups: &[usize], g: usize, list: &[f64]) -> ArrayVec<f64, MAX_READINGS>
+    requires many { length groups.now ≤ 512 }
+    requires each { length groups.now ≤ length list.now }
+    ensures { result.items ≡ own_of groups.now g list.now }
 {
     let mut own = ArrayVec::new();
-    for (&h, &x) in group.iter().zip(list) {
+    for (&h, &x) in groups.iter().zip(list) {
         if h == g {
             own.push(x);
         }
@@ -34,7 +34,7 @@ pub struct Estimate<'a> {
     pub problem: &'a NlmmProblem<'a>,
     pub values: [f64; 4],
     pub b: &'a [f64],
-    pub ghost places: { problem.now.groups * length problem.now.effects.now ≤ length b.now },
+    pub ghost places: { problem.now.group_count * length problem.now.places.now ≤ length b.now },
 }
 
 // A group's own readings, and its effects. Two lists, as the call lends them: the determinant gathers doses alone, and
@@ -50,10 +50,10 @@ pub struct Group<'a> {
 impl Estimate<'_> {
     // The effects of group g.
     pub fn effects(&self, g: usize) -> &[f64]
-        requires { g < self.now.problem.now.groups }
-        ensures { result.now ≡ part (g * length self.now.problem.now.effects.now) (length self.now.problem.now.effects.now) self.now.b.now }
+        requires { g < self.now.problem.now.group_count }
+        ensures { result.now ≡ part (g * length self.now.problem.now.places.now) (length self.now.problem.now.places.now) self.now.b.now }
     {
-        let k = self.problem.effects.len();
+        let k = self.problem.places.len();
         &self.b[g * k..g * k + k]
     }
 
@@ -63,7 +63,7 @@ impl Estimate<'_> {
         ensures { result ≡ group_squares (checked self.now.problem.now) self.now.values group.now.b.now group.now.doses.now group.now.grams.now }
     {
         let q = self.problem;
-        let values = effective(self.values, q.effects, group.b);
+        let values = effective(self.values, q.places, group.b);
         let mut sum = 0.0;
         for (&dose, &gram) in group.doses.iter().zip(group.grams) {
             let r = gram - q.curve.eval(dose, values).mu;
@@ -85,7 +85,7 @@ impl Estimate<'_> {
         ensures { (f : Float → Float) → ((x y : Float) → F.post each x y → y ≡ f x) → result ≡ block_by f (checked self.now.problem.now) self.now.values b.now doses.now m }
     {
         let q = self.problem;
-        let values = effective(self.values, q.effects, b);
+        let values = effective(self.values, q.places, b);
         let mut sum = m;
         for x in doses {
             let [u, v] = random_gradients(q, q.curve.eval(*x, values));

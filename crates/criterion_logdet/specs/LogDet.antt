@@ -20,7 +20,7 @@ module _ (q : Problem) (values b : List Float) where
   -- the factor of group g's block: the covariance's inverse, then the products of the group's own readings in order
   unfoldable pub group_factor : ℕ → Option (List (List Float))
   group_factor g =
-      cholesky_of (k q) (block_by (λ x. x) q values (part (g * k q) (k q) b) (own_of q.group g q.doses) (inverse_of (k q) q.theta))
+      cholesky_of (k q) (block_by (λ x. x) q values (part (g * k q) (k q) b) (own_of q.groups g q.doses) (inverse_of (k q) q.theta))
 
   -- with group g's logarithms, of which there are none where its factor is none
   abbrev pub add_logs : ℕ → Float → Option Float
@@ -28,4 +28,4 @@ module _ (q : Problem) (values b : List Float) where
 
   -- every group counts, one without readings too; +infinity where a factor is none
   unfoldable pub logdet_of : Float
-  logdet_of = unwrap_or (tries add_logs q.groups (mul (count_of q.groups) (log_det_of (k q) q.theta))) (inf false)
+  logdet_of = unwrap_or (tries add_logs q.group_count (mul (count_of q.group_count) (log_det_of (k q) q.theta))) (inf false)

@@ -33,12 +33,12 @@ fn diagonal_logs(k: usize, factor: [[f64; 2]; 2]) -> f64
 // The factor of group g's block: the covariance's inverse, then the group's own readings in order.
 #[tactic(auto, unfolding(crate::specs::LogDet::group_factor))]
 fn group_factor(at: &Estimate<'_>, g: usize) -> Option<[[f64; 2]; 2]>
-    requires { g < at.now.problem.now.groups }
+    requires { g < at.now.problem.now.group_count }
     ensures { result ≡ group_factor (checked at.now.problem.now) at.now.values at.now.b.now g }
 {
     let q = at.problem;
-    let k = q.effects.len();
-    let own = own_readings(q.group, g, q.doses);
+    let k = q.places.len();
+    let own = own_readings(q.groups, g, q.doses);
     let inverse = sigma_inv_from_theta(k, q.theta);
     let block = at.block(at.effects(g), own.as_slice(), inverse, |x| x);
     cholesky(k, block)
@@ -46,9 +46,9 @@ fn group_factor(at: &Estimate<'_>, g: usize) -> Option<[[f64; 2]; 2]>
 
 // The covariance's log-determinant, once for each group.
 pub fn covariance_logdet(q: &NlmmProblem<'_>) -> f64
-    ensures { result ≡ mul (count_of q.now.groups) (log_det_of (k (checked q.now)) q.now.theta.now) }
+    ensures { result ≡ mul (count_of q.now.group_count) (log_det_of (k (checked q.now)) q.now.theta.now) }
 {
-    count(q.groups) * log_det_sigma(q.effects.len(), q.theta)
+    count(q.group_count) * log_det_sigma(q.places.len(), q.theta)
 }
 
 // Every group counts, one without readings too; +infinity where a factor is none.
@@ -57,9 +57,9 @@ pub fn random_effect_logdet(at: &Estimate<'_>) -> f64
     ensures { result ≡ logdet_of (checked at.now.problem.now) at.now.values at.now.b.now }
 {
     let q = at.problem;
-    let k = q.effects.len();
+    let k = q.places.len();
     let mut total = covariance_logdet(q);
-    for g in 0..q.groups {
+    for g in 0..q.group_count {
         let Some(factor) = group_factor(at, g) else {
             return math::infinity();
         };

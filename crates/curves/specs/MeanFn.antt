@@ -47,16 +47,16 @@ eval_of code v x =
     (cond (eqb code 3) (ssmicmen_of (get_or v 0 nan) (get_or v 1 nan) x)
     (ssfpl_of (get_or v 0 nan) (get_or v 1 nan) (get_or v 2 nan) (get_or v 3 nan) x)))
 
--- an effect added at its index
+-- an effect added at its place
 abbrev pub add_at : ℕ → Float → List Float → List Float
-add_at i offset v = set v i (add (get_or v i nan) offset)
+add_at i effect v = set v i (add (get_or v i nan) effect)
 
--- the values with a group's effects, the first effect at the first index
+-- the values with a group's effects, the first effect at the first place
 unfoldable pub effective_of : List ℕ → List Float → List Float → List Float
-effective_of [] offsets v = v
-effective_of (i ∷ indices) [] v = v
-effective_of (i ∷ indices) (offset ∷ offsets) v = effective_of indices offsets (add_at i offset v)
+effective_of [] effects v = v
+effective_of (i ∷ places) [] v = v
+effective_of (i ∷ places) (effect ∷ effects) v = effective_of places effects (add_at i effect v)
 
 -- `eval_mean_with_re`
 unfoldable pub eval_with_re_of : ℕ → List Float → List ℕ → List Float → Float → Mean
-eval_with_re_of code v indices offsets x = eval_of code (effective_of indices offsets v) x
+eval_with_re_of code v places effects x = eval_of code (effective_of places effects v) x

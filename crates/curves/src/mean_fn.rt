@@ -84,18 +84,18 @@ impl Curve {
         }
     }
 
-    // The curve at the values with each effect added at its index.
+    // The curve at the values with each effect added at its place.
     #[tactic(auto, unfolding(crate::specs::MeanFn::eval_with_re_of))]
     pub fn eval_mean_with_re(
         self,
         x: f64,
         params: [f64; 4],
-        re_param_indices: &[usize],
-        re_offsets: &[f64],
+        places: &[usize],
+        effects: &[f64],
     ) -> Mean
-        ensures { result ≡ eval_with_re_of (code_of self) params re_param_indices.now re_offsets.now x }
+        ensures { result ≡ eval_with_re_of (code_of self) params places.now effects.now x }
     {
-        self.eval(x, effective(params, re_param_indices, re_offsets))
+        self.eval(x, effective(params, places, effects))
     }
 }
 
@@ -111,16 +111,16 @@ pub fn four(values: &[f64]) -> [f64; 4]
     ]
 }
 
-// The values with each effect added at its index; an index past the fourth value adds nothing. The
-// indices are as C lends them, the offsets a part of what a fit has found: no list of pairs.
+// The values with each effect added at its place; a place past the fourth value adds nothing. The
+// places are as C lends them, the effects a part of what a fit has found: no list of pairs.
 #[tactic(auto, using(crate::proofs::Laws::effective_none, crate::proofs::Laws::effective_short, std::proofs::lemmas::List::set_past), unfolding(crate::specs::MeanFn::effective_of))]
-pub fn effective(params: [f64; 4], indices: &[usize], offsets: &[f64]) -> [f64; 4]
-    ensures { result ≡ effective_of indices.now offsets.now params }
+pub fn effective(params: [f64; 4], places: &[usize], effects: &[f64]) -> [f64; 4]
+    ensures { result ≡ effective_of places.now effects.now params }
 {
     let mut v = params;
-    for (&i, &offset) in indices.iter().zip(offsets) {
+    for (&i, &effect) in places.iter().zip(effects) {
         if i < v.len() {
-            v[i] += offset;
+            v[i] += effect;
         }
     }
     v

@@ -88,12 +88,12 @@ module _ (q : Problem) where
   slot_length : (values : List Float) (r : ℕ) (b : List Float) → length (project_slot q values r b) ≡ length b
   unfolding slot_of
   slot_length values r b =
-      let lo = get_or q.group_lower (get_or q.effects r 0) nan in
-      let hi = get_or q.group_upper (get_or q.effects r 0) nan in
-      let beta = get_or values (get_or q.effects r 0) nan in
+      let lo = get_or q.group_lower (get_or q.places r 0) nan in
+      let hi = get_or q.group_upper (get_or q.places r 0) nan in
+      let beta = get_or values (get_or q.places r 0) nan in
       let f = group_clamp lo hi beta in
       cond_both (is_finite lo || is_finite hi) (slot_of q r lo hi beta b) b (λ (x : List Float). length x ≡ length b)
-      (λ _. iter_length (slot_at q r f) (λ g l. length-set l (g * k q + r) (f (get_or l (g * k q + r) nan))) q.groups b) (λ _. refl)
+      (λ _. iter_length (slot_at q r f) (λ g l. length-set l (g * k q + r) (f (get_or l (g * k q + r) nan))) q.group_count b) (λ _. refl)
 
   groups_length : (values b : List Float) → length (project_groups q values b) ≡ length b
   unfolding project_groups
@@ -138,7 +138,7 @@ module _ (q : Problem) (valid : Valid q) where
       (scal_numbers (p q) q.code adjusted l adjusted_number started_numbers)
 
   -- ---- a trial
-  module _ (s : State) (d : List Float) (alpha : Float) (b : InBounds q s) (sound : Sound (p q) (k q) q.groups d) (a : T (short alpha)) where
+  module _ (s : State) (d : List Float) (alpha : Float) (b : InBounds q s) (sound : Sound (p q) (k q) q.group_count d) (a : T (short alpha)) where
     moved_numbers : Numbers (p q) (moved_of (p q) 0 d alpha s.values)
     unfolding moved_of
     moved_numbers i x =
@@ -157,8 +157,8 @@ module _ (q : Problem) (valid : Valid q) where
     tried_inside =
         let l = moved_of (p q) 0 d alpha s.values in
         let v = values_tried q d alpha s.values in
-        let e = moved_of (q.groups * k q) (p q) d alpha s.effects in
+        let e = moved_of (q.group_count * k q) (p q) d alpha s.effects in
         project_inside (on_scal q.code floored l) (project_groups q v e)
         (scal_length q.code floored l ∙ moved_length (p q) 0 s.values ∙ b.size)
-        (groups_length q v e ∙ moved_length (q.groups * k q) (p q) s.effects ∙ b.room)
+        (groups_length q v e ∙ moved_length (q.group_count * k q) (p q) s.effects ∙ b.room)
         (scal_numbers (p q) q.code floored l floored_number moved_numbers)

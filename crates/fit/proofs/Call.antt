@@ -22,7 +22,7 @@ use Rattle.fit.specs.laws.Steps.{answered, answer_is}
 use Rattle.fit.specs.Answer.{done_with, told, call_of}
 
 module _ (q : Problem) (allowed : ℕ) where
-  pub checked_done : (x : Ended) (v b : List Float) → x ≡ run_of q allowed → v ≡ take (p q) x.state.values → b ≡ take (q.groups * k q) x.state.effects
+  pub checked_done : (x : Ended) (v b : List Float) → x ≡ run_of q allowed → v ≡ take (p q) x.state.values → b ≡ take (q.group_count * k q) x.state.effects
       → told (Ok (record { rss = x.rss; converged = x.converged; rounds = x.rounds; trials = x.trials })) v b ≡ done_with (answer_of q (fit_of q allowed))
   unfolding told
   checked_done x v b e f g = rw (f, g) (ap (λ (y : Ended). done_with (answered q y)) e ∙ ap done_with (answer_is q allowed))

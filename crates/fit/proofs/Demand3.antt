@@ -67,10 +67,10 @@ module _ (q : Problem) where
   last_inside s [] b h = b
   last_inside s (z ∷ l) b h = last_inside z l h.0 h.1
 
-  sizes : Valid q → (s : State) → InBounds q s → (length (take (p q) s.values) ≡ p q) × (length (take (q.groups * k q) s.effects) ≡ q.groups * k q)
+  sizes : Valid q → (s : State) → InBounds q s → (length (take (p q) s.values) ≡ p q) × (length (take (q.group_count * k q) s.effects) ≡ q.group_count * k q)
   sizes valid s b = (
     length-take-le (p q) s.values (subst (λ (n : ℕ). p q ≤ n) (sym b.size) (params_most q.code)),
-    length-take-le (q.groups * k q) s.effects (subst (λ (n : ℕ). q.groups * k q ≤ n) (sym b.room) (few_effects q valid.sizes)),
+    length-take-le (q.group_count * k q) s.effects (subst (λ (n : ℕ). q.group_count * k q ≤ n) (sym b.room) (few_effects q valid.sizes)),
   )
 
 last_at : (s : State) (l : List State) → get_or (s ∷ l) (length l) no_state ≡ last_of s l

@@ -104,7 +104,7 @@ module _ (q : Problem) where
         decided c z w r true e b f g = won_law n old c z w b e (more n (sum_of q z) 0 c w (omega arith) f)
         decided c z w r false e b f g = lost_law n old c z r b e g
 
-        module _ (c : ℕ) (next : Float → Trace) (nexts : (l : Float) → TraceLaw n c old (next l)) (d : List Float) (sound : Sound (p q) (k q) q.groups d) (lambda : Float) where
+        module _ (c : ℕ) (next : Float → Trace) (nexts : (l : Float) → TraceLaw n c old (next l)) (d : List Float) (sound : Sound (p q) (k q) q.group_count d) (lambda : Float) where
           lengths_law : (m : ℕ) (alpha : Float) → T (short_from m alpha) → TraceLaw n (m + c) old (lengths q s blocks old win m next d lambda alpha)
           unfolding lengths
           lengths_law zero alpha a = more n old c (0 + c) (next (raised lambda)) (omega arith) (nexts (raised lambda))
@@ -125,7 +125,7 @@ module _ (q : Problem) where
             let next : Float → Trace = λ l. attempts q s blocks old win m l in
             let t = lengths q s blocks old win 20 next d lambda one in
             let size = valid.sizes in
-            let sound = direction_sound blocks (p q) (k q) q.groups lambda d (params_most q.code) size.effects_low size.effects_high e in
+            let sound = direction_sound blocks (p q) (k q) q.group_count lambda d (params_most q.code) size.effects_low size.effects_high e in
             cond_both (lt (largest_of d) 1e-10) (ended true) t (TraceLaw n (20 * suc m) old) (λ _. ended_law n old (20 * suc m) true)
             (λ _. more n old (20 + 20 * m) (20 * suc m) t (omega arith) (lengths_law (20 * m) next rest d sound lambda 20 one all_short))
 

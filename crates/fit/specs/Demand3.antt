@@ -47,9 +47,9 @@ pub record Demand3 (q : Problem) (allowed : ℕ) (f : Fit) : Type 0 where
   pub last : get_or f.states (length f.states - 1) no_state ≡ f.state
   -- its p curve values, and its effects, group after group, are what is written, bit for bit
   pub values : take (p q) f.state.values ≡ (answer_of q f).values
-  pub effects : take (q.groups * k q) f.state.effects ≡ (answer_of q f).effects
+  pub effects : take (q.group_count * k q) f.state.effects ≡ (answer_of q f).effects
   -- these are p values and groups times k effects, the lengths of a valid call's output lists
-  pub written : (length (answer_of q f).values ≡ p q) × (length (answer_of q f).effects ≡ q.groups * k q)
+  pub written : (length (answer_of q f).values ≡ p q) × (length (answer_of q f).effects ≡ q.group_count * k q)
   -- every curve value of every state and of every trial, won or lost, lies in its bounds
   pub states : (i : ℕ) → i < length f.states → InBounds q (get_or f.states i no_state)
   pub trials : (i : ℕ) → i < length f.trials → InBounds q (get_or f.trials i no_trial).state

@@ -67,7 +67,7 @@ abbrev pub answer_of : Problem → Fit → Answer
 answer_of q f =
     record {
       values = take (p q) f.state.values;
-      effects = take (q.groups * k q) f.state.effects;
+      effects = take (q.group_count * k q) f.state.effects;
       rss = f.rss;
       converged = f.converged;
       rounds = f.rounds;

@@ -38,7 +38,7 @@ fn run(
     requires few { allowed ≤ 1000 }
     ensures { result ≡ run_of (checked q.now) allowed }
 {
-    let inverse = sigma_inv_from_theta(q.effects.len(), q.theta);
+    let inverse = sigma_inv_from_theta(q.places.len(), q.theta);
     let mut x = evaluate_state(q, start_state(q), means);
     let mut lambda = first_lambda(q);
     let mut trials = 0;
@@ -77,6 +77,6 @@ pub fn inner_gauss_newton(q: &NlmmProblem<'_>, allowed: usize) -> Ended
         d3: 0.0,
     };
     let mut means = [none; MAX_READINGS];
-    let size = q.curve.n_params() + q.groups * q.effects.len();
+    let size = q.curve.n_params() + q.group_count * q.places.len();
     run(q, allowed, &mut d[..size], &mut means)
 }

@@ -19,11 +19,11 @@ bad_code code = ltb code 1 || ltb 4 code
 
 -- 2: no readings, over 512, or unequal lists
 unfoldable pub bad_readings : ℕ → ℕ → ℕ → Bool
-bad_readings doses grams group = ltb doses 1 || ltb 512 doses || not (eqb grams doses) || not (eqb group doses)
+bad_readings doses grams groups = ltb doses 1 || ltb 512 doses || not (eqb grams doses) || not (eqb groups doses)
 
 -- 3: no groups or over 32
 unfoldable pub bad_groups : ℕ → Bool
-bad_groups groups = ltb groups 1 || ltb 32 groups
+bad_groups group_count = ltb group_count 1 || ltb 32 group_count
 
 -- 4: a group number not below the group count; 5: an index of an effect not below p
 abbrev pub all_below : ℕ → List ℕ → Bool
@@ -60,7 +60,7 @@ bad_order lower upper group_lower group_upper = not (in_order lower upper) || no
 
 -- 9: an output list that is not p, or groups times k, long
 unfoldable pub bad_outputs : ℕ → ℕ → ℕ → ℕ → ℕ → Bool
-bad_outputs p groups k values effects = not (eqb values p) || not (eqb effects (groups * k))
+bad_outputs p group_count k values effects = not (eqb values p) || not (eqb effects (group_count * k))
 
 -- 10: over 1,000 rounds, or narrowings
 unfoldable pub too_many : ℕ → Bool

@@ -60,26 +60,26 @@ pub fn in_order(lower: &[f64], upper: &[f64]) -> bool
 }
 
 #[tactic(auto, unfolding(crate::specs::Tests::bad_readings))]
-pub fn bad_readings(doses: usize, grams: usize, group: usize) -> bool
-    ensures { result ≡ bad_readings doses grams group }
+pub fn bad_readings(doses: usize, grams: usize, groups: usize) -> bool
+    ensures { result ≡ bad_readings doses grams groups }
 {
-    doses == 0 || doses > MAX_READINGS || grams != doses || group != doses
+    doses == 0 || doses > MAX_READINGS || grams != doses || groups != doses
 }
 
 #[tactic(auto, unfolding(crate::specs::Tests::bad_groups))]
-pub fn bad_groups(groups: usize) -> bool
-    ensures { result ≡ bad_groups groups }
+pub fn bad_groups(group_count: usize) -> bool
+    ensures { result ≡ bad_groups group_count }
 {
-    groups == 0 || groups > MAX_GROUPS
+    group_count == 0 || group_count > MAX_GROUPS
 }
 
 #[tactic(auto, unfolding(crate::specs::Tests::bad_effects))]
-pub fn bad_effects(p: usize, effects: &[usize]) -> bool
-    ensures { result ≡ bad_effects p effects.now }
+pub fn bad_effects(p: usize, places: &[usize]) -> bool
+    ensures { result ≡ bad_effects p places.now }
 {
-    match effects {
-        [_] => !all_below(effects, p),
-        [a, b] => a == b || !all_below(effects, p),
+    match places {
+        [_] => !all_below(places, p),
+        [a, b] => a == b || !all_below(places, p),
         _ => true,
     }
 }

@@ -25,14 +25,14 @@ fixed_gradients lower upper y = free_at lower upper y 0 ∷ free_at lower upper 
 
 -- the gradients by the effects: the true ones, whatever the bounds, and +0 past the last
 unfoldable pub random_gradients : List ℕ → Mean → List Float
-random_gradients effects y =
-    gradient_at y (get_or effects 0 0) ∷ cond (eqb (length effects) 1) zero (gradient_at y (get_or effects 1 0)) ∷ []
+random_gradients places y =
+    gradient_at y (get_or places 0 0) ∷ cond (eqb (length places) 1) zero (gradient_at y (get_or places 1 0)) ∷ []
 
 module _ (q : Problem) where
   -- reading i, whose curve is y
   unfoldable pub reading_of : ℕ → Mean → BlockNormal → BlockNormal
   reading_of i y n =
-      accumulate_of (get_or q.group i 0) (p q) (fixed_gradients q.lower q.upper y) (k q) (random_gradients q.effects y)
+      accumulate_of (get_or q.groups i 0) (p q) (fixed_gradients q.lower q.upper y) (k q) (random_gradients q.places y)
       (sub (get_or q.grams i nan) y.mu)
       n
 
@@ -44,7 +44,7 @@ module _ (q : Problem) where
 
   -- the readings, then the prior of every group, one without readings too, with the covariance's inverse m
   unfoldable pub blocks_of : List (List Float) → State → BlockNormal
-  blocks_of m s = prior_of (k q) q.groups m (take (q.groups * k q) s.effects) (readings_of s)
+  blocks_of m s = prior_of (k q) q.group_count m (take (q.group_count * k q) s.effects) (readings_of s)
 
   abbrev pub normal_of : State → BlockNormal
   normal_of s = blocks_of (inverse_of (k q) q.theta) s

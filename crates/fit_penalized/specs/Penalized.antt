@@ -21,7 +21,7 @@ squared r = mul r r
 module _ (q : Problem) where
   -- the curve of reading i, with its group's effects
   abbrev pub mean_at : State → ℕ → Mean
-  mean_at s i = eval_with_re_of q.code s.values q.effects (part (get_or q.group i 0 * k q) (k q) s.effects) (get_or q.doses i nan)
+  mean_at s i = eval_with_re_of q.code s.values q.places (part (get_or q.groups i 0 * k q) (k q) s.effects) (get_or q.doses i nan)
 
   -- the rss: the squares in reading order, from 0
   abbrev pub square_at : State → ℕ → Float → Float
@@ -35,7 +35,7 @@ module _ (q : Problem) where
   penalty_at b g t = add t (penalty_of (k q) q.theta (part (g * k q) (k q) b))
 
   unfoldable pub penalty_sum : List Float → Float
-  penalty_sum b = iter (penalty_at b) q.groups zero
+  penalty_sum b = iter (penalty_at b) q.group_count zero
 
   -- `penalized_rss`
   unfoldable pub sum_of : State → Float

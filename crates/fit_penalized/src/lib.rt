@@ -20,11 +20,10 @@ fn mean_at(q: &NlmmProblem<'_>, s: &State, i: usize) -> Mean
     requires { i < length q.now.doses.now }
     ensures { result ≡ mean_at (checked q.now) s.now i }
 {
-    let k = q.effects.len();
-    let from = q.group[i] * k;
+    let k = q.places.len();
+    let from = q.groups[i] * k;
     let b = &s.effects[from..from + k];
-    q.curve
-        .eval_mean_with_re(q.doses[i], s.values, q.effects, b)
+    q.curve.eval_mean_with_re(q.doses[i], s.values, q.places, b)
 }
 
 // The rss. Each reading's curve is worked out once and kept in means, for the normal blocks.
@@ -46,13 +45,13 @@ pub fn evaluate(q: &NlmmProblem<'_>, s: &State, means: &mut [Mean; MAX_READINGS]
 // Each group's, one without readings too.
 #[tactic(auto, using(math::specs::laws::Loops::turns, math::specs::laws::Parts::group_fits, fit_step::specs::laws::Sized::all_fit), unfolding(crate::specs::Penalized::penalty_sum))]
 pub fn penalties(q: &NlmmProblem<'_>, b: &[f64]) -> f64
-    requires { q.now.groups * k (checked q.now) ≤ length b.now }
+    requires { q.now.group_count * k (checked q.now) ≤ length b.now }
     ensures { result ≡ penalty_sum (checked q.now) b.now }
 {
-    let k = q.effects.len();
+    let k = q.places.len();
     let mut t = 0.0;
     // By index: `chunks_exact(k)` would go over b[..q.groups * k], cut by the same product, and is no plainer.
-    for g in 0..q.groups {
+    for g in 0..q.group_count {
         let from = g * k;
         t += re_penalty(k, q.theta, &b[from..from + k]);
     }

@@ -38,14 +38,14 @@ fn fixed_gradients(q: &NlmmProblem<'_>, y: Mean) -> [f64; 4]
 // The true gradients by the effects, whatever the bounds; for one effect the second is +0.
 #[tactic(auto, using(fit_step::specs::laws::Sized::params_most), unfolding(crate::specs::Normal::random_gradients))]
 pub fn random_gradients(q: &NlmmProblem<'_>, y: Mean) -> [f64; 2]
-    ensures { result ≡ random_gradients q.now.effects.now y }
+    ensures { result ≡ random_gradients q.now.places.now y }
 {
     let d = [y.d0, y.d1, y.d2, y.d3];
-    let first = d[q.effects[0]];
-    if q.effects.len() == 1 {
+    let first = d[q.places[0]];
+    if q.places.len() == 1 {
         [first, 0.0]
     } else {
-        [first, d[q.effects[1]]]
+        [first, d[q.places[1]]]
     }
 }
 
@@ -56,10 +56,10 @@ fn add_reading(q: &NlmmProblem<'_>, i: usize, y: Mean, n: &mut BlockNormal)
     ensures { n.new ≡ reading_of (checked q.now) i y n.old }
 {
     let p = q.curve.n_params();
-    let k = q.effects.len();
+    let k = q.places.len();
     let f = fixed_gradients(q, y);
     let r = random_gradients(q, y);
-    n.add_reading(q.group[i], &f[..p], &r[..k], q.grams[i] - y.mu);
+    n.add_reading(q.groups[i], &f[..p], &r[..k], q.grams[i] - y.mu);
 }
 
 // The readings in order, from their curves in means.
@@ -87,7 +87,7 @@ pub fn normal(
     requires { Means (checked q.now) s.now means.now }
     ensures { result ≡ blocks_of (checked q.now) inverse s.now }
 {
-    let k = q.effects.len();
-    let size = q.groups * k;
-    readings(q, s, means).add_prior(k, q.groups, inverse, &s.effects[..size])
+    let k = q.places.len();
+    let size = q.group_count * k;
+    readings(q, s, means).add_prior(k, q.group_count, inverse, &s.effects[..size])
 }

@@ -26,9 +26,9 @@ first_then i (false ∷ a) b h = let e : i + suc (length a) ≡ suc i + length a
 
 module _ (q : Problem) where
   pub fit_split : (values effects rounds : ℕ) → refusal_of q values effects rounds
-      ≡ then_later (first_of_eight q true) (cond (bad_outputs (p q) q.groups (k q) values effects) 9 (cond (too_many rounds) 10 0))
+      ≡ then_later (first_of_eight q true) (cond (bad_outputs (p q) q.group_count (k q) values effects) 9 (cond (too_many rounds) 10 0))
   unfolding refusal_of first_of_eight first_from
-  fit_split values effects rounds = first_then 1 (first_eight q true) (bad_outputs (p q) q.groups (k q) values effects ∷ too_many rounds ∷ []) (zero-lt-suc 0)
+  fit_split values effects rounds = first_then 1 (first_eight q true) (bad_outputs (p q) q.group_count (k q) values effects ∷ too_many rounds ∷ []) (zero-lt-suc 0)
 
   pub search_split : (rounds narrowings : ℕ) → search_refusal_of q rounds narrowings
       ≡ then_later (first_of_eight q false) (cond (too_many rounds || eqb (k q) 2 || too_many narrowings) 10 0)
@@ -36,7 +36,7 @@ module _ (q : Problem) where
   search_split rounds narrowings = first_then 1 (first_eight q false) (false ∷ (too_many rounds || eqb (k q) 2 || too_many narrowings) ∷ []) (zero-lt-suc 0)
 
   -- a problem that passes each test has what `Valid` says
-  pub passed : bad_code q.code ≡ false → bad_readings (length q.doses) (length q.grams) (length q.group) ≡ false → bad_groups q.groups ≡ false
-      → all_below q.groups q.group ≡ true → bad_effects (p q) q.effects ≡ false → wrong_lengths q ≡ false → wrong_numbers q ≡ false → wrong_order q ≡ false → Valid q
+  pub passed : bad_code q.code ≡ false → bad_readings (length q.doses) (length q.grams) (length q.groups) ≡ false → bad_groups q.group_count ≡ false
+      → all_below q.group_count q.groups ≡ true → bad_effects (p q) q.places ≡ false → wrong_lengths q ≡ false → wrong_numbers q ≡ false → wrong_order q ≡ false → Valid q
   unfolding first_from
-  passed code readings groups member effects = valid_of q (sized q (rw (code, readings, groups, member, effects) refl))
+  passed code readings group_count member effects = valid_of q (sized q (rw (code, readings, group_count, member, effects) refl))

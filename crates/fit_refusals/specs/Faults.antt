@@ -10,10 +10,10 @@ module _ (q : Problem) where
   abbrev pub early : List Bool
   early =
       bad_code q.code
-      ∷ bad_readings (length q.doses) (length q.grams) (length q.group)
-      ∷ bad_groups q.groups
-      ∷ not (all_below q.groups q.group)
-      ∷ bad_effects (p q) q.effects
+      ∷ bad_readings (length q.doses) (length q.grams) (length q.groups)
+      ∷ bad_groups q.group_count
+      ∷ not (all_below q.group_count q.groups)
+      ∷ bad_effects (p q) q.places
       ∷ []
 
   -- 6, 7 and 8 without theta
@@ -33,7 +33,7 @@ module _ (q : Problem) where
       (wrong_lengths || bad_theta (k q) (length q.theta))
       ∷ (wrong_numbers || not (every is_finite q.theta))
       ∷ wrong_order
-      ∷ bad_outputs (p q) q.groups (k q) values effects
+      ∷ bad_outputs (p q) q.group_count (k q) values effects
       ∷ too_many rounds
       ∷ []
 

@@ -9,11 +9,11 @@ use Rattle.fit_refusals.specs.Problem.{Problem, problem_of}
 
 abbrev pub given : Code.Problem → Problem
 given q =
-    problem_of q.code q.doses.now q.grams.now q.group.now q.groups q.effects.now q.starts.now q.lower.now q.upper.now q.group_lower.now q.group_upper.now q.theta.now
+    problem_of q.code q.doses.now q.grams.now q.groups.now q.group_count q.places.now q.starts.now q.lower.now q.upper.now q.group_lower.now q.group_upper.now q.theta.now
 
 abbrev pub checked : NlmmProblem → Problem
 checked q =
-    problem_of (code_of q.curve) q.doses.now q.grams.now q.group.now q.groups q.effects.now q.starts.now q.lower.now q.upper.now q.group_lower.now q.group_upper.now q.theta.now
+    problem_of (code_of q.curve) q.doses.now q.grams.now q.groups.now q.group_count q.places.now q.starts.now q.lower.now q.upper.now q.group_lower.now q.group_upper.now q.theta.now
 
 -- 0 where a call is not refused
 abbrev pub number_in : {A : Type 0} → Result A Refusal → ℕ

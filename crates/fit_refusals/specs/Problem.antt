@@ -2,14 +2,14 @@
 use Rattle.std.specs.Prelude.{ℕ, ◌+◌, ◌*◌, Bool, ◌&&◌, List, [], ◌∷◌, eqb, Float, length}
 use Rattle.curves.specs.MeanFn.{n_params_of}
 
--- readings, the number of groups, the indices of the effects, and starts, bounds and group bounds by position; a search is given no theta, and has the empty list
+-- readings, each with its group, the number of groups, the places of the effects among the curve values, and starts, bounds and group bounds by position; a search is given no theta, and has the empty list
 pub record Problem : Type 0 where
   pub code : ℕ
   pub doses : List Float
   pub grams : List Float
-  pub group : List ℕ
-  pub groups : ℕ
-  pub effects : List ℕ
+  pub groups : List ℕ
+  pub group_count : ℕ
+  pub places : List ℕ
   pub starts : List Float
   pub lower : List Float
   pub upper : List Float
@@ -19,14 +19,14 @@ pub record Problem : Type 0 where
 
 -- the problem of a call's arguments, in their order
 abbrev pub problem_of : ℕ → List Float → List Float → List ℕ → ℕ → List ℕ → List Float → List Float → List Float → List Float → List Float → List Float → Problem
-problem_of code doses grams group groups effects starts lower upper group_lower group_upper theta =
+problem_of code doses grams groups group_count places starts lower upper group_lower group_upper theta =
     record {
       code = code;
       doses = doses;
       grams = grams;
-      group = group;
       groups = groups;
-      effects = effects;
+      group_count = group_count;
+      places = places;
       starts = starts;
       lower = lower;
       upper = upper;
@@ -45,13 +45,13 @@ module _ (q : Problem) where
   p = n_params_of q.code
 
   abbrev pub k : ℕ
-  k = length q.effects
+  k = length q.places
 
   -- how long a direction is: p numbers for the values, then k for the effects of each group
   abbrev pub direction_length : ℕ
-  direction_length = p + q.groups * k
+  direction_length = p + q.group_count * k
 
   -- the fit that a search makes at theta t
   abbrev pub at_theta : Float → Problem
   at_theta t =
-      problem_of q.code q.doses q.grams q.group q.groups q.effects q.starts q.lower q.upper q.group_lower q.group_upper (t ∷ [])
+      problem_of q.code q.doses q.grams q.groups q.group_count q.places q.starts q.lower q.upper q.group_lower q.group_upper (t ∷ [])

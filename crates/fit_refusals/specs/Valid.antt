@@ -13,14 +13,14 @@ pub record Sized (q : Problem) : Type 0 where
   pub readings_low : 1 ≤ length q.doses
   pub readings_high : length q.doses ≤ 512
   pub grams : length q.grams ≡ length q.doses
-  pub group : length q.group ≡ length q.doses
-  pub groups_low : 1 ≤ q.groups
-  pub groups_high : q.groups ≤ 32
-  pub member : (i : ℕ) → i < length q.group → get_or q.group i 0 < q.groups
+  pub groups : length q.groups ≡ length q.doses
+  pub groups_low : 1 ≤ q.group_count
+  pub groups_high : q.group_count ≤ 32
+  pub member : (i : ℕ) → i < length q.groups → get_or q.groups i 0 < q.group_count
   pub effects_low : 1 ≤ k q
   pub effects_high : k q ≤ 2
-  pub index : (i : ℕ) → i < k q → get_or q.effects i 0 < p q
-  pub distinct : k q ≡ 2 → get_or q.effects 0 0 ≡ get_or q.effects 1 0 → ⊥
+  pub index : (i : ℕ) → i < k q → get_or q.places i 0 < p q
+  pub distinct : k q ≡ 2 → get_or q.places 0 0 ≡ get_or q.places 1 0 → ⊥
 
 -- without 6, 7 and 8 either, theta left out: of the p places of each list
 pub record Valid (q : Problem) : Type 0 where
@@ -46,7 +46,7 @@ pub record ValidFit (q : Problem) (values effects rounds : ℕ) : Type 0 where
   pub theta : length q.theta ≡ cond (eqb (k q) 2) 3 1
   pub theta_finite : (i : ℕ) → i < length q.theta → is_finite (get_or q.theta i nan) ≡ true
   pub values_long : values ≡ p q
-  pub effects_long : effects ≡ q.groups * k q
+  pub effects_long : effects ≡ q.group_count * k q
   pub few_rounds : rounds ≤ 1000
 
 -- a search without faults

@@ -19,23 +19,23 @@ impl<'a> Problem<'a> {
         ensures same { IfOk result (λ q. checked q ≡ given self.now) }
     {
         let curve = Curve::try_from(self.code)?;
-        if bad_readings(self.doses.len(), self.grams.len(), self.group.len()) {
+        if bad_readings(self.doses.len(), self.grams.len(), self.groups.len()) {
             return Err(Refusal::Readings);
         }
-        if bad_groups(self.groups) {
+        if bad_groups(self.group_count) {
             return Err(Refusal::Groups);
         }
-        if !all_below(self.group, self.groups) {
+        if !all_below(self.groups, self.group_count) {
             return Err(Refusal::Group);
         }
         let p = curve.n_params();
-        if bad_effects(p, self.effects) {
+        if bad_effects(p, self.places) {
             return Err(Refusal::Effects);
         }
         if self.bad_lengths(p) {
             return Err(Refusal::Lengths);
         }
-        if reads_theta && bad_theta(self.effects.len(), self.theta.len()) {
+        if reads_theta && bad_theta(self.places.len(), self.theta.len()) {
             return Err(Refusal::Lengths);
         }
         if self.bad_numbers() {
@@ -51,9 +51,9 @@ impl<'a> Problem<'a> {
             curve,
             doses: self.doses,
             grams: self.grams,
-            group: self.group,
             groups: self.groups,
-            effects: self.effects,
+            group_count: self.group_count,
+            places: self.places,
             starts: self.starts,
             lower: self.lower,
             upper: self.upper,
@@ -98,7 +98,7 @@ impl<'a> Problem<'a> {
         ensures valid { IfOk result (λ q. ValidSearch (checked q) max_rounds max_narrowings) }
     {
         let problem = self.first_eight(false)?;
-        if too_many(max_rounds) || self.effects.len() == 2 || too_many(max_narrowings) {
+        if too_many(max_rounds) || self.places.len() == 2 || too_many(max_narrowings) {
             return Err(Refusal::Limits);
         }
         Ok(problem)

@@ -50,9 +50,9 @@ impl Problem<'_> {
     // product fits.
     #[tactic(auto, unfolding(fit_faults::specs::Tests::bad_outputs))]
     pub fn bad_outputs(&self, p: usize, values: usize, effects: usize) -> bool
-        requires { (self.now.groups ≤ 32) × (length self.now.effects.now ≤ 2) }
-        ensures { result ≡ bad_outputs p self.now.groups (length self.now.effects.now) values effects }
+        requires { (self.now.group_count ≤ 32) × (length self.now.places.now ≤ 2) }
+        ensures { result ≡ bad_outputs p self.now.group_count (length self.now.places.now) values effects }
     {
-        values != p || effects != self.groups * self.effects.len()
+        values != p || effects != self.group_count * self.places.len()
     }
 }

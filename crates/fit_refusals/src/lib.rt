@@ -18,9 +18,9 @@ pub struct Problem<'a> {
     pub code: u64,
     pub doses: &'a [f64],
     pub grams: &'a [f64],
-    pub group: &'a [usize],
-    pub groups: usize,
-    pub effects: &'a [usize],
+    pub groups: &'a [usize],
+    pub group_count: usize,
+    pub places: &'a [usize],
     pub starts: &'a [f64],
     pub lower: &'a [f64],
     pub upper: &'a [f64],
@@ -36,9 +36,9 @@ pub struct NlmmProblem<'a> {
     pub curve: Curve,
     pub doses: &'a [f64],
     pub grams: &'a [f64],
-    pub group: &'a [usize],
-    pub groups: usize,
-    pub effects: &'a [usize],
+    pub groups: &'a [usize],
+    pub group_count: usize,
+    pub places: &'a [usize],
     pub starts: &'a [f64],
     pub lower: &'a [f64],
     pub upper: &'a [f64],
@@ -46,7 +46,7 @@ pub struct NlmmProblem<'a> {
     pub group_upper: &'a [f64],
     pub theta: &'a [f64],
     pub ghost valid: { Valid
-        (problem_of (code_of curve) doses.now grams.now group.now groups effects.now
+        (problem_of (code_of curve) doses.now grams.now groups.now group_count places.now
         starts.now lower.now upper.now group_lower.now group_upper.now theta.now) },
 }
 
@@ -54,8 +54,8 @@ impl NlmmProblem<'_> {
     // Curve 2 with one effect, whose criterion and first lambda are of their own (the Rust's `scalar_ssasymp`).
     #[tactic(auto, unfolding(crate::specs::Problem::is_scalar))]
     pub fn is_scalar(&self) -> bool
-        ensures { result ≡ is_scalar (code_of self.now.curve) (length self.now.effects.now) }
+        ensures { result ≡ is_scalar (code_of self.now.curve) (length self.now.places.now) }
     {
-        self.effects.len() == 1 && self.curve == Curve::Ssasymp
+        self.places.len() == 1 && self.curve == Curve::Ssasymp
     }
 }

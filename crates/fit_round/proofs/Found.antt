@@ -21,12 +21,12 @@ found (Some l) b d e h f = some_by (every is_finite l) b l d h f
 
 module _ (q : Problem) (valid : Valid q) (n : BlockNormal) (l : Float) where
   -- in a list as long as the direction
-  pub direction_found : (d e : List Float) (b : Bool) → length e ≡ p q + q.groups * k q
-      → (b ≡ is_direction (solved_of n (p q) (k q) q.groups l (length e))) × (d ≡ left_in (solved_of n (p q) (k q) q.groups l (length e)) e)
+  pub direction_found : (d e : List Float) (b : Bool) → length e ≡ p q + q.group_count * k q
+      → (b ≡ is_direction (solved_of n (p q) (k q) q.group_count l (length e))) × (d ≡ left_in (solved_of n (p q) (k q) q.group_count l (length e)) e)
       → direction q n l ≡ cond b (Some d) None
   unfolding direction_of
   direction_found d e b long answer =
       let z = valid.sizes in
-      let fits : solved_of n (p q) (k q) q.groups l (length e) ≡ finished_of n (p q) (k q) q.groups l
-      = solve_fits n (p q) (k q) q.groups l (length e) (params_most q.code) z.effects_low z.effects_high z.groups_high long in
-      found (finished_of n (p q) (k q) q.groups l) b d e (rw fits at answer.0) (rw fits at answer.1)
+      let fits : solved_of n (p q) (k q) q.group_count l (length e) ≡ finished_of n (p q) (k q) q.group_count l
+      = solve_fits n (p q) (k q) q.group_count l (length e) (params_most q.code) z.effects_low z.effects_high z.groups_high long in
+      found (finished_of n (p q) (k q) q.group_count l) b d e (rw fits at answer.0) (rw fits at answer.1)

@@ -42,7 +42,7 @@ last_of s (z ∷ l) = last_of z l
 
 module _ (q : Problem) where
   abbrev pub direction : BlockNormal → Float → Option (List Float)
-  direction n lambda = direction_of n (p q) (k q) q.groups lambda
+  direction n lambda = direction_of n (p q) (k q) q.group_count lambda
 
   -- one round, from the state s with the normal blocks n and the sum old. `win` goes on from a winner, with the new lambda and the step's size
   module _ (s : State) (n : BlockNormal) (old : Float) (win : State → Float → Float → Trace) where

@@ -99,12 +99,12 @@ pub fn round(
     ensures kept { Kept (checked q.now) means.new result.end }
 {
     let p = q.curve.n_params();
-    let k = q.effects.len();
+    let k = q.places.len();
     let mut lambda = first;
     let mut trials = 0;
     let mut end = End::Lost;
     'attempts: for attempt in 0..ATTEMPTS {
-        if !n.solve(p, k, q.groups, lambda, d) {
+        if !n.solve(p, k, q.group_count, lambda, d) {
             return Outcome {
                 end: End::Lost,
                 trials,

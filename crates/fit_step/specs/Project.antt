@@ -28,14 +28,14 @@ module _ (q : Problem) where
 
   -- effect r of every group
   unfoldable pub slot_of : ℕ → Float → Float → Float → List Float → List Float
-  slot_of r lo hi beta b = iter (slot_at r (group_clamp lo hi beta)) q.groups b
+  slot_of r lo hi beta b = iter (slot_at r (group_clamp lo hi beta)) q.group_count b
 
   -- left as it is where neither group bound of its value is finite
   abbrev pub project_slot : List Float → ℕ → List Float → List Float
   project_slot values r b =
-      let lo = get_or q.group_lower (get_or q.effects r 0) nan in
-      let hi = get_or q.group_upper (get_or q.effects r 0) nan in
-      let beta = get_or values (get_or q.effects r 0) nan in
+      let lo = get_or q.group_lower (get_or q.places r 0) nan in
+      let hi = get_or q.group_upper (get_or q.places r 0) nan in
+      let beta = get_or values (get_or q.places r 0) nan in
       cond (is_finite lo || is_finite hi) (slot_of r lo hi beta b) b
 
   -- `project_group_params`, by the projected values

@@ -57,7 +57,7 @@ module _ (q : Problem) where
 
   -- the effects, projected by the trial's values
   unfoldable pub effects_tried : List Float → List Float → Float → List Float → List Float
-  effects_tried values d alpha b = project_groups q values (moved_of (q.groups * k q) (p q) d alpha b)
+  effects_tried values d alpha b = project_groups q values (moved_of (q.group_count * k q) (p q) d alpha b)
 
   -- the state that length alpha of the direction d tries, from the state s
   unfoldable pub tried_of : State → List Float → Float → State

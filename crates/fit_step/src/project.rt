@@ -37,8 +37,8 @@ fn clamp_slot(q: &NlmmProblem<'_>, r: usize, lo: f64, hi: f64, beta: f64, b: &mu
     ensures { b.new ≡ slot_of (checked q.now) r lo hi beta b.old }
 {
     // By index: every k-th place of b is written, and of `iter_mut` under `step_by` nothing is known to a proof.
-    for g in 0..q.groups {
-        let at = g * q.effects.len() + r;
+    for g in 0..q.group_count {
+        let at = g * q.places.len() + r;
         b[at] = clamp(lo, hi, beta + b[at]) - beta;
     }
 }
@@ -49,7 +49,7 @@ fn project_slot(q: &NlmmProblem<'_>, r: usize, values: &[f64; 4], b: &mut [f64; 
     requires { r < k (checked q.now) }
     ensures { b.new ≡ project_slot (checked q.now) values.now r b.old }
 {
-    let j = q.effects[r];
+    let j = q.places[r];
     let lo = q.group_lower[j];
     let hi = q.group_upper[j];
     if math::is_finite(lo) || math::is_finite(hi) {
@@ -62,7 +62,7 @@ fn project_slot(q: &NlmmProblem<'_>, r: usize, values: &[f64; 4], b: &mut [f64; 
 pub fn project_group_params(q: &NlmmProblem<'_>, values: &[f64; 4], b: &mut [f64; 64])
     ensures { b.new ≡ project_groups (checked q.now) values.now b.old }
 {
-    for r in 0..q.effects.len() {
+    for r in 0..q.places.len() {
         project_slot(q, r, values, b);
     }
 }

@@ -114,7 +114,7 @@ fn try_effects(q: &NlmmProblem<'_>, values: &[f64; 4], b: &mut [f64; 64], d: &[f
     ensures { b.new ≡ effects_tried (checked q.now) values.now d.now alpha b.old }
 {
     let p = q.curve.n_params();
-    advance(b, &d[p..p + q.groups * q.effects.len()], alpha);
+    advance(b, &d[p..p + q.group_count * q.places.len()], alpha);
     project_group_params(q, values, b);
 }
 

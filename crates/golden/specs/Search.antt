@@ -27,7 +27,7 @@ answers_of q rounds reml nAgq allowed = answers_by (asks q rounds reml nAgq) all
 
 -- at each finite theta the problem is one that a fit takes, given room for its lists
 abbrev pub AlwaysFits : Problem → ℕ → Type 0
-AlwaysFits q rounds = (t : Float) → is_finite t ≡ true → ValidFit (at_theta q t) (p q) (q.groups * k q) rounds
+AlwaysFits q rounds = (t : Float) → is_finite t ≡ true → ValidFit (at_theta q t) (p q) (q.group_count * k q) rounds
 
 -- a call's number, 0 where it is not refused; then what it answers
 pub record Told : Type 0 where

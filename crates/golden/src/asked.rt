@@ -31,9 +31,9 @@ impl Asked<'_> {
             curve: q.curve,
             doses: q.doses,
             grams: q.grams,
-            group: q.group,
             groups: q.groups,
-            effects: q.effects,
+            group_count: q.group_count,
+            places: q.places,
             starts: q.starts,
             lower: q.lower,
             upper: q.upper,
@@ -42,7 +42,7 @@ impl Asked<'_> {
             theta: &theta,
         };
         let p = q.curve.n_params();
-        let n = q.groups * q.effects.len();
+        let n = q.group_count * q.places.len();
         // Room of a fixed size, since there is no heap: four curve values, one or two effects of 32 groups.
         let mut values = [0.0; 4];
         let mut effects = [0.0; 64];

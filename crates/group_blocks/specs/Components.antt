@@ -30,4 +30,4 @@ append_group p k x solved g l =
     l ++ effects_of k (sub o.pair.0 t.0) (sub o.pair.1 t.1)
 
 unfoldable pub components_of : ℕ → ℕ → ℕ → List Float → List Solution → List Float
-components_of p k groups x solved = span (append_group p k x solved) 0 groups (take p x)
+components_of p k group_count x solved = span (append_group p k x solved) 0 group_count (take p x)

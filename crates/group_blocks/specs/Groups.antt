@@ -12,7 +12,7 @@ use Rattle.group_blocks.specs.declared.Solution.{Solution}
 
 -- the sizes that there is a place for
 abbrev pub fits : ℕ → ℕ → ℕ → Bool
-fits p k groups = leb p 4 && leb 1 k && leb k 2 && leb groups 32
+fits p k group_count = leb p 4 && leb 1 k && leb k 2 && leb group_count 32
 
 -- ---- damping
 

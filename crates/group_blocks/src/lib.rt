@@ -16,30 +16,30 @@ use linalg::pair::solve_pair;
 pub struct Shape {
     pub p: usize,
     pub k: usize,
-    pub groups: usize,
+    pub group_count: usize,
     ghost four_values: { p ≤ 4 },
     ghost an_effect: { 1 ≤ k },
     ghost two_effects: { k ≤ 2 },
-    ghost groups_32: { groups ≤ 32 },
+    ghost groups_32: { group_count ≤ 32 },
 }
 
 impl Shape {
     // None for sizes that there is no place for.
-    pub fn new(p: usize, k: usize, groups: usize) -> Option<Shape>
-        ensures fits { IsSome result ↔ IsTrue (fits p k groups) }
-        ensures same { IfSome result (λ s. (s.p ≡ p) × (s.k ≡ k) × (s.groups ≡ groups)) }
+    pub fn new(p: usize, k: usize, group_count: usize) -> Option<Shape>
+        ensures fits { IsSome result ↔ IsTrue (fits p k group_count) }
+        ensures same { IfSome result (λ s. (s.p ≡ p) × (s.k ≡ k) × (s.group_count ≡ group_count)) }
     {
-        if p > 4 || k < 1 || k > 2 || groups > 32 {
+        if p > 4 || k < 1 || k > 2 || group_count > 32 {
             return None;
         }
-        Some(Shape { p, k, groups })
+        Some(Shape { p, k, group_count })
     }
 
     // How many components a direction has.
     pub fn size(self) -> usize
-        ensures { result ≡ self.p + self.groups * self.k }
+        ensures { result ≡ self.p + self.group_count * self.k }
     {
-        self.p + self.groups * self.k
+        self.p + self.group_count * self.k
     }
 }
 
@@ -148,15 +148,15 @@ fn write_effects(out: &mut [f64], x: f64, y: f64)
 // solve's own answer in block_solve: asked there it would be the same line, and the edit non_finite_component stands here.
 #[tactic(auto, using(linalg::specs::laws::Loops::loops, crate::proofs::Laws::parts), unfolding(crate::specs::laws::Steps::component_steps))]
 pub fn write_direction(out: &mut [f64], shape: Shape, x: [f64; 4], solved: &[Solution; 32]) -> bool
-    requires { length out.old ≡ shape.p + shape.groups * shape.k }
-    ensures written { out.new ≡ components_of shape.p shape.k shape.groups x solved.now }
+    requires { length out.old ≡ shape.p + shape.group_count * shape.k }
+    ensures written { out.new ≡ components_of shape.p shape.k shape.group_count x solved.now }
     ensures finite { result ≡ every is_finite out.new }
 {
     let p = shape.p;
     let k = shape.k;
     out[..p].copy_from_slice(&x[..p]);
     // By index: each turn lends another part of out, where its group's effects stand.
-    for g in 0..shape.groups {
+    for g in 0..shape.group_count {
         let at = p + g * k;
         let v = solved[g].pair;
         let t = solved[g].columns_times(shape, x);

@@ -103,8 +103,8 @@ pub extern "C" fn kemroul_fit(
     code: u64,
     doses: &[f64],
     grams: &[f64],
-    group: &[usize],
-    groups: usize,
+    groups: &[usize],
+    group_count: usize,
     effects: &[usize],
     starts: &[f64],
     lower: &[f64],
@@ -122,7 +122,7 @@ pub extern "C" fn kemroul_fit(
 ) -> u64
     ensures { fit_left
         (call_of
-        (problem_of code doses.now grams.now group.now groups effects.now
+        (problem_of code doses.now grams.now groups.now group_count effects.now
         starts.now lower.now upper.now group_lower.now group_upper.now theta.now)
         max_rounds values.old effects_out.old)
         rss.old converged.old rounds.old trials.old
@@ -140,9 +140,9 @@ pub extern "C" fn kemroul_fit(
         code,
         doses,
         grams,
-        group,
         groups,
-        effects,
+        group_count,
+        places: effects,
         starts,
         lower,
         upper,
@@ -168,8 +168,8 @@ pub extern "C" fn kemroul_criterion(
     code: u64,
     doses: &[f64],
     grams: &[f64],
-    group: &[usize],
-    groups: usize,
+    groups: &[usize],
+    group_count: usize,
     effects: &[usize],
     starts: &[f64],
     lower: &[f64],
@@ -187,7 +187,7 @@ pub extern "C" fn kemroul_criterion(
 ) -> u64
     ensures { criterion_left
         (Criterion.call_of
-        (problem_of code doses.now grams.now group.now groups effects.now
+        (problem_of code doses.now grams.now groups.now group_count effects.now
         starts.now lower.now upper.now group_lower.now group_upper.now theta.now)
         max_rounds (not (eqb reml 0)) n_agq values.old effects_out.old)
         criterion.old sigma2.old
@@ -203,9 +203,9 @@ pub extern "C" fn kemroul_criterion(
         code,
         doses,
         grams,
-        group,
         groups,
-        effects,
+        group_count,
+        places: effects,
         starts,
         lower,
         upper,
@@ -229,8 +229,8 @@ pub extern "C" fn kemroul_search(
     code: u64,
     doses: &[f64],
     grams: &[f64],
-    group: &[usize],
-    groups: usize,
+    groups: &[usize],
+    group_count: usize,
     effects: &[usize],
     starts: &[f64],
     lower: &[f64],
@@ -249,7 +249,7 @@ pub extern "C" fn kemroul_search(
 ) -> u64
     ensures { search_left
         (Search.call_of
-        (problem_of code doses.now grams.now group.now groups effects.now
+        (problem_of code doses.now grams.now groups.now group_count effects.now
         starts.now lower.now upper.now group_lower.now group_upper.now [])
         max_rounds (not (eqb reml 0)) n_agq max_narrowings)
         theta.old criterion.old narrowings.old converged.old fits.old
@@ -266,9 +266,9 @@ pub extern "C" fn kemroul_search(
         code,
         doses,
         grams,
-        group,
         groups,
-        effects,
+        group_count,
+        places: effects,
         starts,
         lower,
         upper,

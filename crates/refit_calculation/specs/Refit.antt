@@ -28,22 +28,22 @@ rounds = 200
 abbrev pub narrowings : ℕ
 narrowings = 60
 
--- what is asked: a curve's code, the readings, the indices of the effects, the criterion's kind and its order
+-- what is asked: a curve's code, the readings, the places of the effects, the criterion's kind and its order
 pub record Asked : Type 0 where
   pub code : ℕ
   pub doses : List Float
   pub grams : List Float
-  pub group : List ℕ
-  pub effects : List ℕ
+  pub groups : List ℕ
+  pub places : List ℕ
   pub reml : Bool
   pub n_agq : ℕ
 
 abbrev pub asked_of : ℕ → List Float → List Float → List ℕ → List ℕ → Bool → ℕ → Asked
-asked_of code doses grams group effects reml n_agq =
-    record { code = code; doses = doses; grams = grams; group = group; effects = effects; reml = reml; n_agq = n_agq }
+asked_of code doses grams groups places reml n_agq =
+    record { code = code; doses = doses; grams = grams; groups = groups; places = places; reml = reml; n_agq = n_agq }
 
 abbrev pub asked : Request → Asked
-asked r = asked_of r.code r.doses.now r.grams.now r.group.now r.effects.now r.reml r.n_agq
+asked r = asked_of r.code r.doses.now r.grams.now r.groups.now r.places.now r.reml r.n_agq
 
 -- what is answered, and the three lent lists as they are left: start values, curve values, effects
 pub record Refitted : Type 0 where
@@ -111,15 +111,15 @@ adjusted_of code starts =
 
 -- there are no bounds: every lower bound is minus infinity, every upper one infinity
 abbrev pub unbounded : ℕ → List Float → List Float → List ℕ → ℕ → List ℕ → List Float → Problem
-unbounded code doses grams group groups indices starts =
+unbounded code doses grams groups group_count places starts =
     let lower = replicate (n_params_of code) (neg (inf false)) in
     let upper = replicate (n_params_of code) (inf false) in
-    problem_of code doses grams group groups indices starts lower upper lower upper []
+    problem_of code doses grams groups group_count places starts lower upper lower upper []
 
 -- a canister for each effect that is to be written
 unfoldable pub with_starts : Asked → Bool → List Float → List Float → List Float → Refitted
 with_starts r adjusted starts values b =
-    with_search (unbounded r.code r.doses r.grams r.group (length b) r.effects starts) r.reml r.n_agq adjusted values b
+    with_search (unbounded r.code r.doses r.grams r.groups (length b) r.places starts) r.reml r.n_agq adjusted values b
 
 -- ---- all of it: from given start values, which are taken as they are, or from the self-start's, which leaves the list as it was where it is refused
 

@@ -21,15 +21,15 @@ pub const ROUNDS: u64 = 200;
 
 pub const NARROWINGS: u64 = 60;
 
-// What is refitted: the readings of a curve's code, with one effect for each canister at each of the indices in `effects`.
+// What is refitted: the readings of a curve's code, with one effect for each canister at each of the `places`.
 // The code as fit, criterion and search take it: one that no curve has is refused and no fault of the caller.
 #[derive(Clone, Copy)]
 pub struct Request<'a> {
     pub code: u64,
     pub doses: &'a [f64],
     pub grams: &'a [f64],
-    pub group: &'a [usize],
-    pub effects: &'a [usize],
+    pub groups: &'a [usize],
+    pub places: &'a [usize],
     pub reml: bool,
     pub n_agq: u64,
 }
@@ -163,9 +163,9 @@ fn started(
         code: r.code,
         doses: r.doses,
         grams: r.grams,
-        group: r.group,
-        groups: b.len(),
-        effects: r.effects,
+        groups: r.groups,
+        group_count: b.len(),
+        places: r.places,
         starts,
         lower: &lower[..p],
         upper: &upper[..p],

@@ -69,7 +69,7 @@ pub fn judge_pair<F: Fn(usize, [[f64; 2]; 2]) -> Option<[[f64; 2]; 2]>>(
 }
 
 // A direction's blocks, for p curve values, k effects and groups groups.
-fn read_blocks(words: &mut Words<'_>, p: usize, k: usize, groups: usize) -> Option<BlockNormal> {
+fn read_blocks(words: &mut Words<'_>, p: usize, k: usize, group_count: usize) -> Option<BlockNormal> {
     let fixed = Shape {
         count: 1,
         rows: p,
@@ -78,14 +78,14 @@ fn read_blocks(words: &mut Words<'_>, p: usize, k: usize, groups: usize) -> Opti
         width: 4,
     };
     let cross = Shape {
-        count: groups,
+        count: group_count,
         rows: p,
         columns: k,
         size: 8,
         width: 2,
     };
     let random = Shape {
-        count: groups,
+        count: group_count,
         rows: k,
         columns: k,
         size: 4,
@@ -99,7 +99,7 @@ fn read_blocks(words: &mut Words<'_>, p: usize, k: usize, groups: usize) -> Opti
         width: 4,
     };
     let random_rhs = Shape {
-        count: groups,
+        count: group_count,
         rows: 1,
         columns: k,
         size: 2,
@@ -117,14 +117,14 @@ fn read_blocks(words: &mut Words<'_>, p: usize, k: usize, groups: usize) -> Opti
 pub fn judge_direction(words: &mut Words<'_>) -> Option<bool> {
     let p = words.value()?;
     let k = words.value()?;
-    let groups = words.value()?;
-    if p > 4 || k > 2 || groups > 32 {
+    let group_count = words.value()?;
+    if p > 4 || k > 2 || group_count > 32 {
         return None;
     }
-    let normal = read_blocks(words, p, k, groups)?;
+    let normal = read_blocks(words, p, k, group_count)?;
     let damping = words.value()?;
-    let n = groups.checked_mul(k)?.checked_add(p)?;
+    let n = group_count.checked_mul(k)?.checked_add(p)?;
     let mut direction = [0.0; LONGEST];
-    let is_found = normal.solve(p, k, groups, damping, direction.get_mut(..n)?);
+    let is_found = normal.solve(p, k, group_count, damping, direction.get_mut(..n)?);
     agrees(words, n, is_found.then_some(direction))
 }

@@ -28,8 +28,8 @@ use std::io;
 fn judge(name: &str, words: &mut Words<'_>) -> Option<bool> {
     let mut doses = [0.0; 520];
     let mut grams = [0.0; 520];
-    let mut group = [0; 520];
-    let mut effects = [0; 8];
+    let mut groups = [0; 520];
+    let mut places = [0; 8];
     let mut starts = [0.0; 8];
     let mut lower = [0.0; 8];
     let mut upper = [0.0; 8];
@@ -40,9 +40,9 @@ fn judge(name: &str, words: &mut Words<'_>) -> Option<bool> {
         code: words.value()?,
         doses: words.list(&mut doses)?,
         grams: words.list(&mut grams)?,
-        group: words.list(&mut group)?,
-        groups: words.value()?,
-        effects: words.list(&mut effects)?,
+        groups: words.list(&mut groups)?,
+        group_count: words.value()?,
+        places: words.list(&mut places)?,
         starts: words.list(&mut starts)?,
         lower: words.list(&mut lower)?,
         upper: words.list(&mut upper)?,

@@ -46,16 +46,16 @@ fn call_at<T, C: FnOnce(&Problem<'_>, &mut [f64], &mut [f64]) -> Result<T, Refus
 {
     let doses = rising(1.0);
     let grams = rising(0.015625);
-    let group = in_turn(size.m);
+    let groups = in_turn(size.m);
     let mut values = [kept(); 2];
     let mut effects = [kept(); 33];
     let problem = Problem {
         code: 3,
         doses: doses.get(..size.n)?,
         grams: grams.get(..size.n)?,
-        group: group.get(..size.n)?,
-        groups: size.m,
-        effects: &[0],
+        groups: groups.get(..size.n)?,
+        group_count: size.m,
+        places: &[0],
         starts: &[8.0, 1.0],
         lower: &[1.0, 1.0],
         upper: &[20.0, size.top],

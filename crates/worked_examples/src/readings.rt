@@ -17,12 +17,12 @@ pub fn rising(step: f64) -> [f64; READINGS]
 }
 
 // Reading i is of group i, i less the number of groups, .., whichever is one.
-pub fn in_turn(groups: usize) -> [usize; READINGS]
+pub fn in_turn(group_count: usize) -> [usize; READINGS]
     ensures { 520 ≡ length result }
 {
     let mut out = [0; READINGS];
     for (i, group) in out.iter_mut().enumerate() {
-        *group = i.checked_rem(groups).unwrap_or(0);
+        *group = i.checked_rem(group_count).unwrap_or(0);
     }
     out
 }

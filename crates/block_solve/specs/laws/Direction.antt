@@ -7,11 +7,11 @@ use Rattle.block_solve.specs.Direction.{finished_of, fitting, solved_of}
 
 -- ---- what `solve` answers and leaves in the list that it is lent
 
-module _ (n : BlockNormal) (p k groups : ℕ) (t : Float) (size : ℕ) where
-  pub solve_refuses : fitting p k groups size ≡ false → solved_of n p k groups t size ≡ None
+module _ (n : BlockNormal) (p k group_count : ℕ) (t : Float) (size : ℕ) where
+  pub solve_refuses : fitting p k group_count size ≡ false → solved_of n p k group_count t size ≡ None
   unfolding solved_of
   solve_refuses h = rw h refl
 
-  pub solve_fits : p ≤ 4 → 1 ≤ k → k ≤ 2 → groups ≤ 32 → size ≡ p + groups * k → solved_of n p k groups t size ≡ finished_of n p k groups t
+  pub solve_fits : p ≤ 4 → 1 ≤ k → k ≤ 2 → group_count ≤ 32 → size ≡ p + group_count * k → solved_of n p k group_count t size ≡ finished_of n p k group_count t
   unfolding solved_of
-  solve_fits a b c d e = rw (le-leb p 4 a, le-leb 1 k b, le-leb k 2 c, le-leb groups 32 d, eq-eqb size (p + groups * k) e) refl
+  solve_fits a b c d e = rw (le-leb p 4 a, le-leb 1 k b, le-leb k 2 c, le-leb group_count 32 d, eq-eqb size (p + group_count * k) e) refl

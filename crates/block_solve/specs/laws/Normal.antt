@@ -11,7 +11,7 @@ module _ (g : ℕ) (p : ℕ) (f : List Float) (k : ℕ) (r : List Float) (y : Fl
   unfolding accumulate_of
   accumulate_fits n a b c = rw (lt-ltb g 32 a, le-leb p 4 b, le-leb k 2 c) refl
 
-pub prior_fits : (k groups : ℕ) (m : List (List Float)) (b : List Float) (n : BlockNormal)
-    → k ≤ 2 → groups ≤ 32 → length b ≡ groups * k → prior_of k groups m b n ≡ add_priors k groups m b n
+pub prior_fits : (k group_count : ℕ) (m : List (List Float)) (b : List Float) (n : BlockNormal)
+    → k ≤ 2 → group_count ≤ 32 → length b ≡ group_count * k → prior_of k group_count m b n ≡ add_priors k group_count m b n
 unfolding prior_of
-prior_fits k groups m b n x y z = rw (le-leb k 2 x, le-leb groups 32 y, eq-eqb (length b) (groups * k) z) refl
+prior_fits k group_count m b n x y z = rw (le-leb k 2 x, le-leb group_count 32 y, eq-eqb (length b) (group_count * k) z) refl

@@ -28,10 +28,10 @@ use Rattle.criterion.specs.Answer.{profile_of}
 
 -- a problem without bounds, at its start: no round is allowed
 abbrev pub case : ℕ → List Float → List Float → List ℕ → ℕ → List ℕ → List Float → List Float → Problem
-case code doses grams group groups effects starts theta =
+case code doses grams groups group_count places starts theta =
     let low = replicate (n_params_of code) (inf true) in
     let high = replicate (n_params_of code) (inf false) in
-    problem_of code doses grams group groups effects starts low high low high theta
+    problem_of code doses grams groups group_count places starts low high low high theta
 
 -- whether it is REML, the order asked, and the bits of the criterion and of sigma2
 pub record Row : Type 0 where

@@ -7,10 +7,10 @@ use Rattle.criterion_groups.proofs.own_readings.Given as goal
 
 abbrev pub invariant-loop-h : goal.invariant-loop-h
 invariant-loop-h l =
-    let group = l.h-iterator.a.rest.now in
+    let groups = l.h-iterator.a.rest.now in
     let list = l.h-iterator.b.rest.now in
     record {
-      each : length group ≤ length list;
-      fits : length l.own.items + length group ≤ 512;
-      so_far : fold (own_next l.g) l.own.items (zip group list) ≡ own_of l.group l.g l.list;
+      each : length groups ≤ length list;
+      fits : length l.own.items + length groups ≤ 512;
+      so_far : fold (own_next l.g) l.own.items (zip groups list) ≡ own_of l.groups l.g l.list;
     }

@@ -13,11 +13,11 @@ more : (b : Bool) (own own' : List Float) (v w : Float) → length own ≡ lengt
 more true own own' v w e = simp length-append (ap (λ m. m + 1) e)
 more false own own' v w e = e
 
-so_far : (group : List ℕ) (g : ℕ) (l m : List Float) (i : ℕ) → length (iter (own_at group g l) i []) ≡ length (iter (own_at group g m) i [])
+so_far : (groups : List ℕ) (g : ℕ) (l m : List Float) (i : ℕ) → length (iter (own_at groups g l) i []) ≡ length (iter (own_at groups g m) i [])
 unfolding iter
-so_far group g l m zero = refl
-so_far group g l m (suc i) = more (eqb (get_or group i 0) g) _ _ _ _ (so_far group g l m i)
+so_far groups g l m zero = refl
+so_far groups g l m (suc i) = more (eqb (get_or groups i 0) g) _ _ _ _ (so_far groups g l m i)
 
-pub own_as_long : (group : List ℕ) (g : ℕ) (l m : List Float) → length (own_of group g l) ≡ length (own_of group g m)
+pub own_as_long : (groups : List ℕ) (g : ℕ) (l m : List Float) → length (own_of groups g l) ≡ length (own_of groups g m)
 unfolding own_of
-own_as_long group g l m = so_far group g l m (length group)
+own_as_long groups g l m = so_far groups g l m (length groups)

@@ -55,7 +55,7 @@ module _ (q : Problem) where
   answered x =
       record {
         values = take (p q) x.state.values;
-        effects = take (q.groups * k q) x.state.effects;
+        effects = take (q.group_count * k q) x.state.effects;
         rss = x.rss;
         converged = x.converged;
         rounds = x.rounds;
@@ -69,4 +69,4 @@ module _ (q : Problem) where
       let a : 0 + x.rounds ≡ x.rounds = omega arith in
       let b : 0 + length x.trials ≡ length x.trials = omega arith in
       let s = last_of (start_of q) x.accepted in
-      λ i. record { values = take (p q) s.values; effects = take (q.groups * k q) s.effects; rss = rss_of q s; converged = x.converged; rounds = a i; trials = b i }
+      λ i. record { values = take (p q) s.values; effects = take (q.group_count * k q) s.effects; rss = rss_of q s; converged = x.converged; rounds = a i; trials = b i }

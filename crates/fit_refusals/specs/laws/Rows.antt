@@ -71,8 +71,8 @@ winners_hold = refl
 pub record Edge : Type 0 where
   pub code : ℕ
   pub readings : ℕ
-  pub groups : ℕ
-  pub effects : List ℕ
+  pub group_count : ℕ
+  pub places : List ℕ
   pub bounds : Float × Float
   pub group_bounds : Float × Float
   pub theta : List Float
@@ -82,13 +82,13 @@ pub record Edge : Type 0 where
 abbrev pub problem_at : Edge → Problem
 problem_at e =
     let n = n_params_of e.code in
-    problem_of e.code (replicate e.readings one) (replicate e.readings one) (replicate e.readings 0) e.groups e.effects (replicate n one)
+    problem_of e.code (replicate e.readings one) (replicate e.readings one) (replicate e.readings 0) e.group_count e.places (replicate n one)
     (replicate n e.bounds.0) (replicate n e.bounds.1) (replicate n e.group_bounds.0) (replicate n e.group_bounds.1) e.theta
 
 abbrev pub numbers_at : Edge → ℕ × ℕ
 numbers_at e =
     let q = problem_at e in
-    (refusal_of q (p q) (q.groups * k q) e.rounds, search_refusal_of q e.rounds e.narrowings)
+    (refusal_of q (p q) (q.group_count * k q) e.rounds, search_refusal_of q e.rounds e.narrowings)
 
 -- no bounds, -0
 abbrev pub free : Float × Float
@@ -98,12 +98,12 @@ abbrev pub minus_zero : Float
 minus_zero = bits 0x8000_0000_0000_0000
 
 abbrev pub edge : ℕ → ℕ → ℕ → List ℕ → Float × Float → Float × Float → List Float → ℕ → ℕ → Edge
-edge code readings groups effects bounds group_bounds theta rounds narrowings =
+edge code readings group_count places bounds group_bounds theta rounds narrowings =
     record {
       code = code;
       readings = readings;
-      groups = groups;
-      effects = effects;
+      group_count = group_count;
+      places = places;
       bounds = bounds;
       group_bounds = group_bounds;
       theta = theta;

@@ -46,7 +46,7 @@ module _ (q : Problem) (ok : first_from 1 (early q) ≡ 0) where
       let fourth = or_parts _ _ (no_early 1) in
       let third = or_parts _ _ fourth.0 in
       let readings = or_parts _ _ third.0 in
-      let groups = or_parts _ _ (no_early 2) in
+      let group_count = or_parts _ _ (no_early 2) in
       let equal = or_parts _ _ (no_early 4) in
       let index = or_parts _ _ equal.0 in
       let effects = or_parts _ _ index.0 in
@@ -56,13 +56,13 @@ module _ (q : Problem) (ok : first_from 1 (early q) ≡ 0) where
         readings_low = ltb-false _ _ readings.0;
         readings_high = ltb-false _ _ readings.1;
         grams = eqb-true _ _ (not-false _ third.1);
-        group = eqb-true _ _ (not-false _ fourth.1);
-        groups_low = ltb-false _ _ groups.0;
-        groups_high = ltb-false _ _ groups.1;
-        member = λ i h. ltb-true _ _ (every_at (λ (g : ℕ). ltb g q.groups) q.group i 0 (not-false _ (no_early 3)) h);
+        groups = eqb-true _ _ (not-false _ fourth.1);
+        groups_low = ltb-false _ _ group_count.0;
+        groups_high = ltb-false _ _ group_count.1;
+        member = λ i h. ltb-true _ _ (every_at (λ (g : ℕ). ltb g q.group_count) q.groups i 0 (not-false _ (no_early 3)) h);
         effects_low = ltb-false _ _ effects.0;
         effects_high = ltb-false _ _ effects.1;
-        index = λ i h. ltb-true _ _ (every_at (λ (j : ℕ). ltb j (p q)) q.effects i 0 (not-false _ index.1) h);
+        index = λ i h. ltb-true _ _ (every_at (λ (j : ℕ). ltb j (p q)) q.places i 0 (not-false _ index.1) h);
         distinct = λ e. eqb-false _ _ (rw (eq-eqb _ _ e) at equal.1);
       }
 
@@ -155,7 +155,7 @@ module _ (q : Problem) (rounds narrowings : ℕ) (ok : search_refusal_of q round
       }
 
   -- so every fit that it makes is without faults
-  pub search_fits : (t : Float) → is_finite t ≡ true → refusal_of (at_theta q t) (p q) (q.groups * k q) rounds ≡ 0
+  pub search_fits : (t : Float) → is_finite t ≡ true → refusal_of (at_theta q t) (p q) (q.group_count * k q) rounds ≡ 0
   unfolding refusal_of first_from bad_outputs
   search_fits t h =
       let ten = or_parts _ _ (no_search_fault 9) in
@@ -175,7 +175,7 @@ module _ (q : Problem) (rounds narrowings : ℕ) (ok : search_refusal_of q round
         few,
         theta,
         eq-eqb (p q) (p q) refl,
-        eq-eqb (q.groups * k q) (q.groups * k q) refl,
+        eq-eqb (q.group_count * k q) (q.group_count * k q) refl,
       )
 
 -- ---- sizes and numbers
@@ -189,7 +189,7 @@ params_few code = picked (eqb code 3) (eqb code 4)
     picked false true = (omega arith, omega arith)
     picked false false = (omega arith, omega arith)
 
-pub few_effects : (q : Problem) → Sized q → q.groups * k q ≤ 64
+pub few_effects : (q : Problem) → Sized q → q.group_count * k q ≤ 64
 few_effects q s = mul-le-mul s.groups_high s.effects_high
 
 pub finite_number : (x : Float) → is_finite x ≡ true → is_nan x ≡ false

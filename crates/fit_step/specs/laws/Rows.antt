@@ -38,7 +38,7 @@ abbrev tries_at : ℕ → List Float → List Float → List Float → Float →
 tries_at code lower upper d alpha values = values_tried (problem_of code [] [] [] 0 [] [] lower upper [] [] []) d alpha values
 
 abbrev projects_at : List ℕ → ℕ → List Float → List Float → List Float → List Float → List Float
-projects_at effects groups lower upper values b = project_groups (problem_of 1 [] [] [] groups effects [] [] [] lower upper []) values b
+projects_at places group_count lower upper values b = project_groups (problem_of 1 [] [] [] group_count places [] [] [] lower upper []) values b
 
 -- a scal of 0 becomes 350 before the projection; -1 stays; on curve 4 it is the fourth value; curve 2 has none
 unfoldable pub starts : List (List Float)

@@ -16,22 +16,22 @@ pub few_params : (p code : ℕ) → p ≡ n_params_of code → p ≤ 4
 few_params p code e = rw e (params_most code)
 
 -- the effects of at most 32 groups lie within the 64 places, and so do one group's
-pub all_fit : (groups k : ℕ) → groups ≤ 32 → k ≤ 2 → groups * k ≤ 64
-all_fit groups k p q = omega (arith, mul-le-mul_right k p)
+pub all_fit : (group_count k : ℕ) → group_count ≤ 32 → k ≤ 2 → group_count * k ≤ 64
+all_fit group_count k p q = omega (arith, mul-le-mul_right k p)
 
-pub slot_fits : (g groups k : ℕ) → g < groups → groups ≤ 32 → k ≤ 2 → g * k + k ≤ 64
-slot_fits g groups k p q r = omega (arith, group_fits g groups k p, all_fit groups k q r)
+pub slot_fits : (g group_count k : ℕ) → g < group_count → group_count ≤ 32 → k ≤ 2 → g * k + k ≤ 64
+slot_fits g group_count k p q r = omega (arith, group_fits g group_count k p, all_fit group_count k q r)
 
 -- a problem without the faults 1 to 5 has these sizes
 module _ (q : Problem) (h : Sized q) where
-  pub effects_sized : Effects q.effects
+  pub effects_sized : Effects q.places
   effects_sized = record { some = h.effects_low; two = h.effects_high; within = λ r i. lt_of_lt_of_le (h.index r i) (params_most q.code) }
 
-  pub readings_sized : Readings q.doses q.grams q.group
+  pub readings_sized : Readings q.doses q.grams q.groups
   readings_sized =
       record {
         many = h.readings_high;
         grams_each = h.grams;
-        group_each = h.group;
-        grouped = λ i p. lt_of_lt_of_le (h.member i (rw h.group p)) h.groups_high;
+        group_each = h.groups;
+        grouped = λ i p. lt_of_lt_of_le (h.member i (rw h.groups p)) h.groups_high;
       }

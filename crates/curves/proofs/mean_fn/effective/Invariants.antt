@@ -5,4 +5,4 @@ use Rattle.curves.proofs.mean_fn.effective.Given as goal
 
 abbrev pub invariant-loop-i : goal.invariant-loop-i
 invariant-loop-i l =
-    (length l.v ≡ 4) × (effective_of l.i-iterator.a.rest.now l.i-iterator.b.rest.now l.v ≡ effective_of l.indices l.offsets l.initial.v)
+    (length l.v ≡ 4) × (effective_of l.i-iterator.a.rest.now l.i-iterator.b.rest.now l.v ≡ effective_of l.places l.effects l.initial.v)

@@ -9,7 +9,7 @@ use Rattle.fit.proofs.Lists.{some_places}
 use Rattle.fit.proofs.run.inner_gauss_newton.Goals as goal
 use Rattle.fit.proofs.run.inner_gauss_newton.Goals.{After-n_params}
 
-few : (c : After-n_params) → c.n_params.result + c.args.q.now.groups * length c.args.q.now.effects.now ≤ 68
+few : (c : After-n_params) → c.n_params.result + c.args.q.now.group_count * length c.args.q.now.places.now ≤ 68
 few c =
     let z = c.args.q.now.valid.sizes in
     omega (arith, c.n_params.ensures, params_most (code_of c.args.q.now.curve), all_fit _ _ z.groups_high z.effects_high)

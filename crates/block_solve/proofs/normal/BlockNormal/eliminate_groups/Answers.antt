@@ -9,4 +9,4 @@ pub returns-in_err-solution : goal.returns-in_err-solution
 unfolding eliminated_of
 returns-in_err-solution c =
     let e = sym (rw c.group-group.ensures at c.solve.ensures) ∙ c.in_err-solution.was in
-    c.from_residual.ensures ∙ tries_stop _ _ c.args.shape.groups c.loop-g.g _ c.loop-g.invariant (ap (option_map _) e) c.loop-g-test.true
+    c.from_residual.ensures ∙ tries_stop _ _ c.args.shape.group_count c.loop-g.g _ c.loop-g.invariant (ap (option_map _) e) c.loop-g-test.true
