@@ -36,11 +36,11 @@ profile_at q reml nAgq a =
 
 -- the criterion and sigma2 of a problem, with so many rounds allowed
 unfoldable pub profile_of : Problem → ℕ → Bool → ℕ → Profile
-profile_of q allowed reml nAgq = profile_at q reml nAgq (Fit.answer_of q (Fit.fit_of q allowed))
+profile_of q allowed reml nAgq = profile_at q reml nAgq (Fit.fit_answer q (Fit.fit_of q allowed))
 
 -- it refuses as the fit does, and writes as the fit does
 unfoldable pub call_of : Problem → ℕ → Bool → ℕ → List Float → List Float → Told
 call_of q allowed reml nAgq values effects =
     let n = refusal_of q (length values) (length effects) allowed in
-    let a = Fit.answer_of q (Fit.fit_of q allowed) in
+    let a = Fit.fit_answer q (Fit.fit_of q allowed) in
     cond (eqb n 0) (done_with (profile_of q allowed reml nAgq) a.values a.effects) (refused_with n values effects)

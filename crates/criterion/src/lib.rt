@@ -6,7 +6,7 @@ pub mod profile;
 ghost use Rattle.std.specs.Prelude.{◌≡◌, length};
 ghost use Rattle.fit_refusals.specs.Given.{given, checked};
 ghost use Rattle.fit_refusals.specs.Valid.{ValidFit};
-ghost use Rattle.fit.specs.Fit.{answer_of, fit_of};
+ghost use Rattle.fit.specs.Fit.{fit_answer, fit_of};
 ghost use Rattle.criterion.specs.Answer.{told, call_of, profile_of};
 
 use crate::profile::{Profile, profile_objective};
@@ -29,8 +29,8 @@ pub fn criterion_checked(
 ) -> Profile
     requires { ValidFit (checked q.now) (length values.old) (length effects_out.old) max_rounds }
     ensures profile { result ≡ profile_of (checked q.now) max_rounds reml n_agq }
-    ensures values { values.new ≡ (answer_of (checked q.now) (fit_of (checked q.now) max_rounds)).values }
-    ensures effects { effects_out.new ≡ (answer_of (checked q.now) (fit_of (checked q.now) max_rounds)).effects }
+    ensures values { values.new ≡ (fit_answer (checked q.now) (fit_of (checked q.now) max_rounds)).values }
+    ensures effects { effects_out.new ≡ (fit_answer (checked q.now) (fit_of (checked q.now) max_rounds)).effects }
 {
     let fitted = fit_checked(q, max_rounds, values, effects_out);
     let at = Estimate {

@@ -31,18 +31,18 @@ minus_two = bits 0xc000_0000_0000_0000
 -- ---- what the nodes are multiplied by, from the curvature m
 
 -- one effect: 1 / the root of the curvature, none where it is at most 2^-52 or not finite
-abbrev pub scale_of : Float → Option (List (List Float))
-scale_of a = cond (le a epsilon || not (is_finite a)) None (Some (rows (div one (sqrt_of a)) zero zero zero))
+abbrev pub scaling_of_one : Float → Option (List (List Float))
+scaling_of_one a = cond (le a epsilon || not (is_finite a)) None (Some (rows (div one (sqrt_of a)) zero zero zero))
 
 -- two: the lower Cholesky factor of the inverse, none where either is
 unfoldable pub scaling_of : ℕ → List (List Float) → Option (List (List Float))
-scaling_of k m = cond (eqb k 1) (scale_of (entry m 0 0)) (option_and_then (Pair.cholesky_of 2) (Pair.inverse_of 2 m))
+scaling_of k m = cond (eqb k 1) (scaling_of_one (entry m 0 0)) (option_and_then (Pair.cholesky_of 2) (Pair.inverse_of 2 m))
 
 -- ---- a group's nodes
 
 -- how many: the order to the k-th power
-abbrev pub nodes_of : ℕ → ℕ → ℕ
-nodes_of k order = cond (eqb k 1) order (order * order)
+abbrev pub node_count_of : ℕ → ℕ → ℕ
+node_count_of k order = cond (eqb k 1) order (order * order)
 
 -- the t-th node: for two effects the first dimension is t mod order, the second t / order; the logarithm of its weight is summed from 0
 abbrev pub line_node : ℕ → ℕ → Node
@@ -55,8 +55,8 @@ unfoldable pub node_of : ℕ → ℕ → ℕ → Node
 node_of k order t = cond (eqb k 1) (line_node order t) (grid_node order (t % order) (t / order))
 
 -- the effects at a node: b and the scaling s times the node; for one effect the second place is +0
-unfoldable pub moved_of : ℕ → List (List Float) → Node → List Float → List Float
-moved_of k s n b =
+unfoldable pub effects_at_node : ℕ → List (List Float) → Node → List Float → List Float
+effects_at_node k s n b =
     cond (eqb k 1) (add (get_or b 0 nan) (mul (entry s 0 0) n.z0) ∷ zero ∷ [])
     (add (get_or b 0 nan) (dot_of (entry s 0 0) (entry s 0 1) n.z0 n.z1) ∷ add (get_or b 1 nan) (dot_of (entry s 1 0) (entry s 1 1) n.z0 n.z1) ∷ [])
 
@@ -80,13 +80,13 @@ module _ (q : Problem) (values : List Float) (sigma2 : Float) (order : ℕ) wher
     abbrev pub term_at : List (List Float) → ℕ → Float
     term_at s t =
         let n = node_of (k q) order t in
-        term_for n.log_w (moved_of (k q) s n b)
+        term_for n.log_w (effects_at_node (k q) s n b)
 
     abbrev pub more_terms : List (List Float) → ℕ → List Float → List Float
     more_terms s t l = l ++ (term_at s t ∷ [])
 
     unfoldable pub terms_of : List (List Float) → List Float
-    terms_of s = iter (more_terms s) (nodes_of (k q) order) []
+    terms_of s = iter (more_terms s) (node_count_of (k q) order) []
 
     -- the sum so far, t, with -2 times the logarithm of the terms' sum; none where that is not finite, or where there is no scaling
     abbrev pub add_inner : Float → Float → Option Float

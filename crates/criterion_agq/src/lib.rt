@@ -6,7 +6,7 @@ ghost use Rattle.std.specs.Prelude.{◌≡◌, ◌≤◌, ◌<◌, length};
 ghost use Rattle.fit_refusals.specs.Given.{checked};
 ghost use Rattle.re_cov.specs.ReCov.{penalty_of};
 ghost use Rattle.criterion_groups.specs.Groups.{group_squares};
-ghost use Rattle.criterion_agq.specs.Agq.{scaling_of, nodes_of, node_of, moved_of, term_of, terms_of, add_group, group_at, groups_of, agq_of};
+ghost use Rattle.criterion_agq.specs.Agq.{scaling_of, node_count_of, node_of, effects_at_node, term_of, terms_of, add_group, group_at, groups_of, agq_of};
 
 use arrayvec::ArrayVec;
 use criterion_groups::{Estimate, Group, own_readings};
@@ -56,7 +56,7 @@ fn scaling(k: usize, curvature: [[f64; 2]; 2]) -> Option<[[f64; 2]; 2]>
 
 fn node_count(k: usize, order: usize) -> usize
     requires { order ≤ 11 }
-    ensures same { result ≡ nodes_of k order }
+    ensures same { result ≡ node_count_of k order }
     ensures few { result ≤ 121 }
 {
     if k == 1 { order } else { order * order }
@@ -86,9 +86,9 @@ fn node_at(k: usize, order: usize, t: usize) -> Node
 }
 
 // The effects at a node: b and the scaling times the node.
-#[tactic(auto, unfolding(crate::specs::Agq::moved_of))]
+#[tactic(auto, unfolding(crate::specs::Agq::effects_at_node))]
 fn moved(k: usize, scaling: [[f64; 2]; 2], n: Node, b: &[f64]) -> [f64; 2]
-    ensures { result ≡ moved_of k scaling n b.now }
+    ensures { result ≡ effects_at_node k scaling n b.now }
 {
     let [[a, o], [c, d]] = scaling;
     let x = math::at(b, 0);

@@ -24,7 +24,7 @@ use Rattle.fit_refusals.specs.Valid.{Valid}
 use Rattle.fit_step.specs.declared.State.{State}
 use Rattle.fit_step.specs.Constants.{three_fifty, 1e-6}
 use Rattle.fit_step.specs.Project.{clamp_of, clamp_at, project_of, group_clamp, slot_at, slot_of, project_slot, project_groups}
-use Rattle.fit_step.specs.Trial.{at_place, on_scal, adjusted, floored, start_at, started, start_of, moved_at, moved_of, values_tried, effects_tried, tried_of}
+use Rattle.fit_step.specs.Trial.{at_place, on_scal, adjusted, floored, start_at, started, start_state, moved_at, moved_of, values_tried, effects_tried, tried_of}
 use Rattle.fit_step.specs.laws.Sized.{params_most}
 use Rattle.fit.specs.Demand3.{Inside, InBounds}
 use Rattle.fit.proofs.Floats.{mul_finite, short}
@@ -130,8 +130,8 @@ module _ (q : Problem) (valid : Valid q) where
   unfolding started
   started_length = each_length (start_at q) (p q) (replicate 4 Basic.zero)
 
-  pub start_inside : InBounds q (start_of q)
-  unfolding start_of
+  pub start_inside : InBounds q (start_state q)
+  unfolding start_state
   start_inside =
       let l = started q in
       project_inside (on_scal q.code adjusted l) (replicate 64 Basic.zero) (scal_length q.code adjusted l ∙ started_length) (length-replicate 64 Basic.zero)

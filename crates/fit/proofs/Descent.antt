@@ -21,8 +21,8 @@ use Rattle.fit_refusals.specs.Valid.{Valid}
 use Rattle.fit_step.specs.declared.State.{State}
 use Rattle.math.specs.Lists.{largest_of}
 use Rattle.fit_step.specs.Trial.{tried_of, step_of, lowered, raised}
-use Rattle.fit_penalized.specs.Penalized.{sum_of}
-use Rattle.fit_penalized.specs.Normal.{normal_of}
+use Rattle.fit_penalized.specs.Penalized.{penalized_rss}
+use Rattle.fit_penalized.specs.Normal.{normal_blocks}
 use Rattle.fit_round.specs.Round.{1e-10, Trial, Trace, ended, tried, direction, lengths, along, attempts}
 use Rattle.fit.specs.Fit.{won, begun, rounds}
 use Rattle.fit.specs.Demand3.{InBounds, winners_of}
@@ -44,7 +44,7 @@ all_short = tt
 module _ (q : Problem) where
   -- a trial lies in its bounds, and its sum is its state's
   abbrev pub Tried : Trial → Type 0
-  Tried t = InBounds q t.state × (t.sum ≡ sum_of q t.state)
+  Tried t = InBounds q t.state × (t.sum ≡ penalized_rss q t.state)
 
   -- a trace from a state with the sum old: at most n rounds begin, and at most c trials beside 240 for each of them
   pub record TraceLaw (n c : ℕ) (old : Float) (t : Trace) : Type 0 where
@@ -62,23 +62,23 @@ module _ (q : Problem) where
     more c d t h g = record { accepts = g.accepts; trials = g.trials; few = omega (arith, g.few, h); begun = g.begun }
 
     -- a lost trial, and what follows on the old state
-    lost_law : (c : ℕ) (z : State) (t : Trace) → InBounds q z → lt (sum_of q z) old ≡ false → TraceLaw n c old t → TraceLaw n (suc c) old (tried z (sum_of q z) t)
+    lost_law : (c : ℕ) (z : State) (t : Trace) → InBounds q z → lt (penalized_rss q z) old ≡ false → TraceLaw n c old t → TraceLaw n (suc c) old (tried z (penalized_rss q z) t)
     unfolding winners_of
     lost_law c z t b h g =
         record {
-          accepts = pick_false (lt (sum_of q z) old) (z ∷ winners_of (sum_of q z) t.trials) (winners_of old t.trials) h ∙ g.accepts;
+          accepts = pick_false (lt (penalized_rss q z) old) (z ∷ winners_of (penalized_rss q z) t.trials) (winners_of old t.trials) h ∙ g.accepts;
           trials = ((b, refl), g.trials);
           few = omega (arith, g.few);
           begun = g.begun;
         }
 
     -- a trial that wins, and what follows on its state
-    won_law : (c : ℕ) (z : State) (t : Trace) → InBounds q z → lt (sum_of q z) old ≡ true → TraceLaw n c (sum_of q z) t
-        → TraceLaw n (suc c) old (tried z (sum_of q z) (won z t))
+    won_law : (c : ℕ) (z : State) (t : Trace) → InBounds q z → lt (penalized_rss q z) old ≡ true → TraceLaw n c (penalized_rss q z) t
+        → TraceLaw n (suc c) old (tried z (penalized_rss q z) (won z t))
     unfolding winners_of
     won_law c z t b h g =
         record {
-          accepts = pick_true (lt (sum_of q z) old) (z ∷ winners_of (sum_of q z) t.trials) (winners_of old t.trials) h ∙ ap (λ (l : List State). z ∷ l) g.accepts;
+          accepts = pick_true (lt (penalized_rss q z) old) (z ∷ winners_of (penalized_rss q z) t.trials) (winners_of old t.trials) h ∙ ap (λ (l : List State). z ∷ l) g.accepts;
           trials = ((b, refl), g.trials);
           few = omega (arith, g.few);
           begun = g.begun;
@@ -91,17 +91,17 @@ module _ (q : Problem) where
   module _ (valid : Valid q) where
     -- ---- one round, after which n more may begin; `onward` goes on from a winner
     module _ (n : ℕ) (s : State) (blocks : BlockNormal) (onward : State → Float → Float → Trace) (inside : InBounds q s)
-        (wins : (z : State) (l step : Float) → InBounds q z → TraceLaw n 0 (sum_of q z) (onward z l step))
+        (wins : (z : State) (l step : Float) → InBounds q z → TraceLaw n 0 (penalized_rss q z) (onward z l step))
       where
         abbrev old : Float
-        old = sum_of q s
+        old = penalized_rss q s
 
         abbrev win : State → Float → Float → Trace
         win z l step = won z (onward z l step)
 
-        decided : (c : ℕ) (z : State) (w r : Trace) (t : Bool) → lt (sum_of q z) old ≡ t → InBounds q z → TraceLaw n 0 (sum_of q z) w → TraceLaw n c old r
-            → TraceLaw n (suc c) old (tried z (sum_of q z) (cond t (won z w) r))
-        decided c z w r true e b f g = won_law n old c z w b e (more n (sum_of q z) 0 c w (omega arith) f)
+        decided : (c : ℕ) (z : State) (w r : Trace) (t : Bool) → lt (penalized_rss q z) old ≡ t → InBounds q z → TraceLaw n 0 (penalized_rss q z) w → TraceLaw n c old r
+            → TraceLaw n (suc c) old (tried z (penalized_rss q z) (cond t (won z w) r))
+        decided c z w r true e b f g = won_law n old c z w b e (more n (penalized_rss q z) 0 c w (omega arith) f)
         decided c z w r false e b f g = lost_law n old c z r b e g
 
         module _ (c : ℕ) (next : Float → Trace) (nexts : (l : Float) → TraceLaw n c old (next l)) (d : List Float) (sound : Sound (p q) (k q) q.group_count d) (lambda : Float) where
@@ -113,9 +113,9 @@ module _ (q : Problem) where
               let b : InBounds q z = tried_inside q valid s d alpha inside sound (and_l (short alpha) (short_from m (mul alpha half)) a) in
               let w = onward z (lowered lambda) (step_of alpha d) in
               let r = lengths q s blocks old win m next d lambda (mul alpha half) in
-              let t = tried z (sum_of q z) (cond (lt (sum_of q z) old) (won z w) r) in
+              let t = tried z (penalized_rss q z) (cond (lt (penalized_rss q z) old) (won z w) r) in
               more n old (suc (m + c)) (suc m + c) t (omega arith)
-              (decided (m + c) z w r (lt (sum_of q z) old) refl b (wins z (lowered lambda) (step_of alpha d) b)
+              (decided (m + c) z w r (lt (penalized_rss q z) old) refl b (wins z (lowered lambda) (step_of alpha d) b)
               (lengths_law m (mul alpha half) (and_r (short alpha) (short_from m (mul alpha half)) a)))
 
         along_law : (m : ℕ) (lambda : Float) → ((l : Float) → TraceLaw n (20 * m) old (attempts q s blocks old win m l)) → (o : Option (List Float))
@@ -135,12 +135,12 @@ module _ (q : Problem) where
         attempts_law (suc m) lambda = along_law m lambda (λ l. attempts_law m l) (direction q blocks lambda) refl
 
     -- ---- all rounds
-    pub rounds_law : (m : ℕ) (s : State) (lambda : Float) → InBounds q s → TraceLaw m 0 (sum_of q s) (rounds q m s lambda)
+    pub rounds_law : (m : ℕ) (s : State) (lambda : Float) → InBounds q s → TraceLaw m 0 (penalized_rss q s) (rounds q m s lambda)
     unfolding rounds
-    rounds_law zero s lambda b = ended_law 0 (sum_of q s) 0 false
+    rounds_law zero s lambda b = ended_law 0 (penalized_rss q s) 0 false
     rounds_law (suc m) s lambda b =
         let onward : State → Float → Float → Trace = λ z l step. cond (lt step 1e-10) (ended true) (rounds q m z l) in
-        begun_law m (sum_of q s) (attempts q s (normal_of q s) (sum_of q s) (λ z l step. won z (onward z l step)) 12 lambda)
-        (attempts_law m s (normal_of q s) onward b
-        (λ z l step i. cond_both (lt step 1e-10) (ended true) (rounds q m z l) (TraceLaw m 0 (sum_of q z)) (λ _. ended_law m (sum_of q z) 0 true) (λ _. rounds_law m z l i))
+        begun_law m (penalized_rss q s) (attempts q s (normal_blocks q s) (penalized_rss q s) (λ z l step. won z (onward z l step)) 12 lambda)
+        (attempts_law m s (normal_blocks q s) onward b
+        (λ z l step i. cond_both (lt step 1e-10) (ended true) (rounds q m z l) (TraceLaw m 0 (penalized_rss q z)) (λ _. ended_law m (penalized_rss q z) 0 true) (λ _. rounds_law m z l i))
         12 lambda)

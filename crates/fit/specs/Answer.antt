@@ -36,4 +36,4 @@ done_with a =
 unfoldable pub call_of : Problem → ℕ → List Float → List Float → Told
 call_of q allowed values effects =
     let n = refusal_of q (length values) (length effects) allowed in
-    cond (eqb n 0) (done_with (Fit.answer_of q (Fit.fit_of q allowed))) (refused_with n values effects)
+    cond (eqb n 0) (done_with (Fit.fit_answer q (Fit.fit_of q allowed))) (refused_with n values effects)

@@ -4,10 +4,10 @@ use Rattle.std.specs.Prelude.{ℕ, zero, suc, ◌+◌, ◌*◌, Bool, true, fals
 use Rattle.std.specs.Float.Ieee.{lt}
 use Rattle.fit_refusals.specs.Problem.{Problem, p, k}
 use Rattle.fit_step.specs.declared.State.{State}
-use Rattle.fit_step.specs.Trial.{start_of, first_lambda}
-use Rattle.fit_penalized.specs.Penalized.{rss_of, sum_of}
-use Rattle.fit_penalized.specs.Normal.{normal_of}
-use Rattle.fit_round.specs.Round.{1e-10, Trial, Trace, ended, last_of, attempts}
+use Rattle.fit_step.specs.Trial.{start_state, first_lambda}
+use Rattle.fit_penalized.specs.Penalized.{rss_of, penalized_rss}
+use Rattle.fit_penalized.specs.Normal.{normal_blocks}
+use Rattle.fit_round.specs.Round.{1e-10, Trial, Trace, ended, last_accepted, attempts}
 
 -- first a win, or the beginning of a round; then t
 abbrev pub won : State → Trace → Trace
@@ -22,14 +22,14 @@ module _ (q : Problem) where
   rounds zero s lambda = ended false
   rounds (suc m) s lambda =
       begun
-      (attempts q s (normal_of q s) (sum_of q s)
+      (attempts q s (normal_blocks q s) (penalized_rss q s)
       (λ z l step.
       let t = rounds m z l in
       won z (cond (lt step 1e-10) (ended true) t))
       12 lambda)
 
   unfoldable pub trace_of : ℕ → Trace
-  trace_of allowed = rounds allowed (start_of q) (first_lambda q)
+  trace_of allowed = rounds allowed (start_state q) (first_lambda q)
 
 -- a whole fit: the list of demand 3, the trials, and what is returned
 pub record Fit : Type 0 where
@@ -47,12 +47,12 @@ whole_of q s t =
       trials = t.trials;
       rounds = t.rounds;
       converged = t.converged;
-      state = last_of s t.accepted;
-      rss = rss_of q (last_of s t.accepted);
+      state = last_accepted s t.accepted;
+      rss = rss_of q (last_accepted s t.accepted);
     }
 
 unfoldable pub fit_of : Problem → ℕ → Fit
-fit_of q allowed = whole_of q (start_of q) (trace_of q allowed)
+fit_of q allowed = whole_of q (start_state q) (trace_of q allowed)
 
 -- what a fit answers: the last state's p values and groups times k effects, which it writes, and the numbers
 pub record Answer : Type 0 where
@@ -63,8 +63,8 @@ pub record Answer : Type 0 where
   pub rounds : ℕ
   pub trials : ℕ
 
-abbrev pub answer_of : Problem → Fit → Answer
-answer_of q f =
+abbrev pub fit_answer : Problem → Fit → Answer
+fit_answer q f =
     record {
       values = take (p q) f.state.values;
       effects = take (q.group_count * k q) f.state.effects;

@@ -1,7 +1,7 @@
 -- What the loop over rounds ends in.
 use Rattle.std.specs.Prelude.{Bool, ℕ}
 use Rattle.fit_refusals.specs.Problem.{Problem}
-use Rattle.fit_step.specs.Trial.{start_of, first_lambda}
+use Rattle.fit_step.specs.Trial.{start_state, first_lambda}
 use Rattle.fit_round.specs.declared.Evaluated.{Evaluated}
 use Rattle.fit_round.specs.declared.Ended.{Ended}
 use Rattle.fit_round.specs.Steps.{result_of}
@@ -14,5 +14,5 @@ ended_with x converged rounds trials = record { state = x.state; rss = x.rss; co
 module _ (q : Problem) where
   -- ---- the whole: what the run ends in is the answer
 
-  unfoldable pub run_of : ℕ → Ended
-  run_of n = result_of q (start_of q) 0 0 (rounds q n (start_of q) (first_lambda q))
+  unfoldable pub fit_run : ℕ → Ended
+  fit_run n = result_of q (start_state q) 0 0 (rounds q n (start_state q) (first_lambda q))

@@ -6,7 +6,7 @@ pub mod run;
 ghost use Rattle.std.specs.Prelude.{◌≡◌, length, Ok};
 ghost use Rattle.fit_refusals.specs.Given.{given, checked};
 ghost use Rattle.fit_refusals.specs.Valid.{ValidFit};
-ghost use Rattle.fit.specs.Fit.{answer_of, fit_of};
+ghost use Rattle.fit.specs.Fit.{fit_answer, fit_of};
 ghost use Rattle.fit.specs.Answer.{told, done_with, call_of};
 
 use crate::run::inner_gauss_newton;
@@ -33,7 +33,7 @@ pub fn fit_checked(
     effects_out: &mut [f64],
 ) -> Fitted
     requires { ValidFit (checked q.now) (length values.old) (length effects_out.old) max_rounds }
-    ensures { told (Ok result) values.new effects_out.new ≡ done_with (answer_of (checked q.now) (fit_of (checked q.now) max_rounds)) }
+    ensures { told (Ok result) values.new effects_out.new ≡ done_with (fit_answer (checked q.now) (fit_of (checked q.now) max_rounds)) }
 {
     let last = inner_gauss_newton(q, max_rounds as usize);
     let p = values.len();

@@ -2,7 +2,7 @@
 ghost use Rattle.std.specs.Prelude.{◌≡◌, ◌≤◌, length};
 ghost use Rattle.fit_refusals.specs.Problem.{direction_length};
 ghost use Rattle.fit_refusals.specs.Given.{checked};
-ghost use Rattle.fit.specs.Steps.{run_of, ended_with};
+ghost use Rattle.fit.specs.Steps.{fit_run, ended_with};
 
 use curves::Mean;
 use fit_penalized::normal::normal;
@@ -36,7 +36,7 @@ fn run(
 ) -> Ended
     requires long { length d.old ≡ direction_length (checked q.now) }
     requires few { allowed ≤ 1000 }
-    ensures { result ≡ run_of (checked q.now) allowed }
+    ensures { result ≡ fit_run (checked q.now) allowed }
 {
     let inverse = sigma_inv_from_theta(q.places.len(), q.theta);
     let mut x = evaluate_state(q, start_state(q), means);
@@ -66,7 +66,7 @@ fn run(
 #[tactic(auto, using(fit_step::specs::laws::Sized::params_most, fit_step::specs::laws::Sized::all_fit))]
 pub fn inner_gauss_newton(q: &NlmmProblem<'_>, allowed: usize) -> Ended
     requires { allowed ≤ 1000 }
-    ensures { result ≡ run_of (checked q.now) allowed }
+    ensures { result ≡ fit_run (checked q.now) allowed }
 {
     let mut d = [0.0; 68];
     let none = Mean {

@@ -46,5 +46,5 @@ module _ (q : Problem) where
   unfoldable pub blocks_of : List (List Float) → State → BlockNormal
   blocks_of m s = prior_of (k q) q.group_count m (take (q.group_count * k q) s.effects) (readings_of s)
 
-  abbrev pub normal_of : State → BlockNormal
-  normal_of s = blocks_of (inverse_of (k q) q.theta) s
+  abbrev pub normal_blocks : State → BlockNormal
+  normal_blocks s = blocks_of (inverse_of (k q) q.theta) s

@@ -38,8 +38,8 @@ module _ (q : Problem) where
   penalty_sum b = iter (penalty_at b) q.group_count zero
 
   -- `penalized_rss`
-  unfoldable pub sum_of : State → Float
-  sum_of s = add (rss_of s) (penalty_sum s.effects)
+  unfoldable pub penalized_rss : State → Float
+  penalized_rss s = add (rss_of s) (penalty_sum s.effects)
 
   -- the list holds the curve of each reading
   abbrev pub Means : State → List Mean → Type 0

@@ -9,7 +9,7 @@ use Rattle.fit_refusals.specs.Problem.{Problem, p, k}
 use Rattle.fit_step.specs.declared.State.{State}
 use Rattle.math.specs.Lists.{largest_of}
 use Rattle.fit_step.specs.Trial.{tried_of, step_of, lowered, raised}
-use Rattle.fit_penalized.specs.Penalized.{sum_of}
+use Rattle.fit_penalized.specs.Penalized.{penalized_rss}
 
 -- a proposal or a step below it ends the fit as converged; laws/Literals.antt ties it to its decimal
 abbrev pub 1e-10 : Float
@@ -36,9 +36,9 @@ abbrev pub tried : State → Float → Trace → Trace
 tried z v t = record { accepted = t.accepted; trials = record { state = z; sum = v } ∷ t.trials; rounds = t.rounds; converged = t.converged }
 
 -- the state accepted last, or s
-abbrev pub last_of : State → List State → State
-last_of s [] = s
-last_of s (z ∷ l) = last_of z l
+abbrev pub last_accepted : State → List State → State
+last_accepted s [] = s
+last_accepted s (z ∷ l) = last_accepted z l
 
 module _ (q : Problem) where
   abbrev pub direction : BlockNormal → Float → Option (List Float)
@@ -51,7 +51,7 @@ module _ (q : Problem) where
     lengths zero next d lambda alpha = next (raised lambda)
     lengths (suc m) next d lambda alpha =
         let z = tried_of q s d alpha in
-        let v = sum_of q z in
+        let v = penalized_rss q z in
         let w = win z (lowered lambda) (step_of alpha d) in
         let r = lengths m next d lambda (mul alpha half) in
         tried z v (cond (lt v old) w r)

@@ -4,11 +4,11 @@ use Rattle.fit_refusals.specs.Problem.{Problem}
 use Rattle.fit_step.specs.declared.State.{State}
 use Rattle.fit_penalized.specs.Penalized.{rss_of}
 use Rattle.fit_round.specs.declared.Ended.{Ended}
-use Rattle.fit_round.specs.Round.{Trace, last_of}
+use Rattle.fit_round.specs.Round.{Trace, last_accepted}
 
 module _ (q : Problem) where
   abbrev pub stopped : State → Bool → ℕ → ℕ → Ended
   stopped s c r t = record { state = s; rss = rss_of q s; converged = c; rounds = r; trials = t }
 
   abbrev pub result_of : State → ℕ → ℕ → Trace → Ended
-  result_of s r t x = stopped (last_of s x.accepted) x.converged (r + x.rounds) (t + length x.trials)
+  result_of s r t x = stopped (last_accepted s x.accepted) x.converged (r + x.rounds) (t + length x.trials)

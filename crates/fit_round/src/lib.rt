@@ -69,7 +69,7 @@ pub struct Ended {
 
 // The rss and the penalised sum of a state; its curves are left in means, a list that is lent beside the state and no field
 // of it: there is no heap, and each state of a fit would have room for 512 curves.
-#[tactic(auto, using(fit_step::specs::laws::Sized::all_fit), unfolding(fit_penalized::specs::Penalized::sum_of))]
+#[tactic(auto, using(fit_step::specs::laws::Sized::all_fit), unfolding(fit_penalized::specs::Penalized::penalized_rss))]
 pub fn evaluate_state(
     q: &NlmmProblem<'_>,
     state: State,

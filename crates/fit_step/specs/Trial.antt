@@ -46,8 +46,8 @@ module _ (q : Problem) where
   unfoldable pub started : List Float
   started = each start_at (p q) (replicate 4 zero)
 
-  unfoldable pub start_of : State
-  start_of = record { values = project_of q (on_scal q.code adjusted started); effects = replicate 64 zero }
+  unfoldable pub start_state : State
+  start_state = record { values = project_of q (on_scal q.code adjusted started); effects = replicate 64 zero }
 
   -- ---- a trial
 

@@ -3,7 +3,7 @@ ghost use Rattle.std.specs.Prelude.{◌≡◌, ◌≤◌, Float, length};
 ghost use Rattle.curves.specs.MeanFn.{code_of};
 ghost use Rattle.fit_refusals.specs.Problem.{p, direction_length};
 ghost use Rattle.fit_refusals.specs.Given.{checked};
-ghost use Rattle.fit_step.specs.Trial.{adjusted, floored, on_scal, started, start_of, moved_of, values_tried, effects_tried, tried_of};
+ghost use Rattle.fit_step.specs.Trial.{adjusted, floored, on_scal, started, start_state, moved_of, values_tried, effects_tried, tried_of};
 ghost use Rattle.fit_step.specs.Trial.{step_of, first_lambda, lowered, raised};
 
 use crate::State;
@@ -71,9 +71,9 @@ fn starting_values(q: &NlmmProblem<'_>) -> [f64; 4]
 }
 
 // The adjusted, projected start. The effects are zero and are not projected.
-#[tactic(auto, unfolding(crate::specs::Trial::start_of))]
+#[tactic(auto, unfolding(crate::specs::Trial::start_state))]
 pub fn start_state(q: &NlmmProblem<'_>) -> State
-    ensures { result ≡ start_of (checked q.now) }
+    ensures { result ≡ start_state (checked q.now) }
 {
     let mut values = starting_values(q);
     on_scal(q.curve, &mut values, adjust);

@@ -12,7 +12,7 @@ use lib.Ieee.{Float, nan}
 use Rattle.math.specs.Basic.{is_finite}
 use Rattle.math.specs.laws.Loops.{pick_true, pick_false}
 use Rattle.golden.specs.declared.Bracket.{Bracket}
-use Rattle.golden.specs.Golden.{is_wide, keeps_left, new_point, left_part, right_part, narrowed, theta_of, Run, ended, first, run, found_at, golden_by, listed, golden_over}
+use Rattle.golden.specs.Golden.{is_wide, keeps_left, new_point, left_part, right_part, narrowed, theta_of, Run, run_ended, first, run, found_at, golden_by, listed, golden_over}
 use Rattle.fit_refusals.specs.Problem.{Problem}
 use Rattle.golden.specs.Search.{asks, search_of}
 use Rattle.golden.specs.Demand3 as Claim
@@ -56,11 +56,11 @@ module _ (ask : ℕ → Float → Float) where
   run_counts (suc k) n f s h I =
       elim (eq-or-lt_of_le h) [
         | inl e ↦
-            let o : cond (is_wide s) (run ask k (n + 1) (f + 1) (narrowed s (new_point s) (ask f (new_point s)))) (ended n f s) ≡ ended n f s = pick_false _ _ _ (narrow_at n s e I) in
+            let o : cond (is_wide s) (run ask k (n + 1) (f + 1) (narrowed s (new_point s) (ask f (new_point s)))) (run_ended n f s) ≡ run_ended n f s = pick_false _ _ _ (narrow_at n s e I) in
             (ap (λ (r : Run). r.made) o ∙ none n n k e, ap (λ (r : Run). r.fits) o ∙ none f n k e)
         | inr q ↦
             let x = ask f (new_point s) in
-            let o : cond (is_wide s) (run ask k (n + 1) (f + 1) (narrowed s (new_point s) x)) (ended n f s) ≡ run ask k (n + 1) (f + 1) (narrowed s (new_point s) x) = pick_true _ _ _ (wide_at n s q I) in
+            let o : cond (is_wide s) (run ask k (n + 1) (f + 1) (narrowed s (new_point s) x)) (run_ended n f s) ≡ run ask k (n + 1) (f + 1) (narrowed s (new_point s) x) = pick_true _ _ _ (wide_at n s q I) in
             let i : suc n ≡ n + 1 = omega arith in
             let ih = run_counts k (n + 1) (f + 1) (narrowed s (new_point s) x) (omega (arith, q)) (subst (λ (m : ℕ). Inv (row m) (narrowed s (new_point s) x)) i (narrowed_inv n s x q I)) in
             (ap (λ (r : Run). r.made) o ∙ ih.0 ∙ more n n k q, ap (λ (r : Run). r.fits) o ∙ ih.1 ∙ more f n k q)

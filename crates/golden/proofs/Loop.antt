@@ -9,7 +9,7 @@ use native.Mathlib.Omega.{arith}
 use lib.Ieee.{Float, nan}
 use Rattle.math.specs.Basic.{is_finite}
 use Rattle.golden.specs.declared.Bracket.{Bracket}
-use Rattle.golden.specs.Golden.{start, end, left_point, right_point, is_wide, new_point, narrowed, theta_of, converged_of, ended, first, run, found_at, golden_by}
+use Rattle.golden.specs.Golden.{start, end, left_point, right_point, is_wide, new_point, narrowed, theta_of, converged_of, run_ended, first, run, found_at, golden_by}
 use Rattle.golden.proofs.Table.{row}
 use Rattle.golden.proofs.Points.{Inv, first_inv, finite_at}
 use Rattle.golden.proofs.Demand3.{narrowed_inv, wide_at, narrow_at, point_finite, theta_is_finite}
@@ -28,7 +28,7 @@ wide_few s made h I w =
       | inr q ↦ q
     ]
 
-stops : (ask : ℕ → Float → Float) (k n f : ℕ) (s : Bracket) → is_wide s ≡ false → run ask k n f s ≡ ended n f s
+stops : (ask : ℕ → Float → Float) (k n f : ℕ) (s : Bracket) → is_wide s ≡ false → run ask k n f s ≡ run_ended n f s
 unfolding run
 stops ask zero n f s h = refl
 stops ask (suc k) n f s h = rw h
@@ -90,7 +90,7 @@ module _ (Answered : Float → Float → Type 0) (allowed : ℕ) where
               rw (ex, et) (sym (run_goes ask p w)) ∙ G.whole ask h;
         }
 
-    run_stops : (ask : Float → Float) → (is_wide s ≡ false) ⊎ (allowed ≤ made) → run (by ask) (allowed - made) made fits s ≡ ended made fits s
+    run_stops : (ask : Float → Float) → (is_wide s ≡ false) ⊎ (allowed ≤ made) → run (by ask) (allowed - made) made fits s ≡ run_ended made fits s
     unfolding run
     run_stops ask stop =
         elim stop [
@@ -111,5 +111,5 @@ module _ (Answered : Float → Float → Type 0) (allowed : ℕ) where
     unfolding golden_by found_at
     ends t x v stop et ax ev ask h =
         let ex = h t x (last_finite t et) ax in
-        let w : ended made fits s ≡ run (by ask) allowed 0 2 (first (by ask)) = sym (run_stops ask stop) ∙ G.whole ask h in
+        let w : run_ended made fits s ≡ run (by ask) allowed 0 2 (first (by ask)) = sym (run_stops ask stop) ∙ G.whole ask h in
         rw (ev, ex, et) (ap (found_at (by ask)) w)

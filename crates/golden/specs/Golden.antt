@@ -65,8 +65,8 @@ pub record Run : Type 0 where
   pub fits : ℕ
   pub last : Bracket
 
-abbrev pub ended : ℕ → ℕ → Bracket → Run
-ended made fits s = record { made = made; fits = fits; last = s }
+abbrev pub run_ended : ℕ → ℕ → Bracket → Run
+run_ended made fits s = record { made = made; fits = fits; last = s }
 
 -- narrow enough and a finite last criterion
 unfoldable pub converged_of : Bracket → Float → Bool
@@ -87,11 +87,11 @@ module _ (ask : ℕ → Float → Float) where
 
   -- with so many narrowings still allowed, after so many narrowings and fits
   unfoldable pub run : ℕ → ℕ → ℕ → Bracket → Run
-  run zero made fits s = ended made fits s
+  run zero made fits s = run_ended made fits s
   run (suc k) made fits s =
       let t = new_point s in
       let r = run k (made + 1) (fits + 1) (narrowed s t (ask fits t)) in
-      cond (is_wide s) r (ended made fits s)
+      cond (is_wide s) r (run_ended made fits s)
 
   -- the criterion once more, at theta
   unfoldable pub found_at : Run → Found

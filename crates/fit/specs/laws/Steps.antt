@@ -7,22 +7,22 @@ use Rattle.std.specs.Float.Ieee.{lt}
 use Rattle.std.proofs.Math.ListN.{length, take}
 use Rattle.fit_refusals.specs.Problem.{Problem, p, k}
 use Rattle.fit_step.specs.declared.State.{State}
-use Rattle.fit_step.specs.Trial.{start_of, first_lambda}
-use Rattle.fit_penalized.specs.Penalized.{rss_of, sum_of}
-use Rattle.fit_penalized.specs.Normal.{normal_of}
+use Rattle.fit_step.specs.Trial.{start_state, first_lambda}
+use Rattle.fit_penalized.specs.Penalized.{rss_of, penalized_rss}
+use Rattle.fit_penalized.specs.Normal.{normal_blocks}
 use Rattle.fit_round.specs.declared.Ended.{Ended}
-use Rattle.fit_round.specs.Round.{1e-10, Trace, ended, last_of, attempts}
+use Rattle.fit_round.specs.Round.{1e-10, Trace, ended, last_accepted, attempts}
 use Rattle.fit_round.specs.Steps.{stopped, result_of}
 use Rattle.fit_round.specs.laws.Steps.{at_end}
-use Rattle.fit.specs.Fit.{won, begun, rounds, trace_of, fit_of, Answer, answer_of}
-use Rattle.fit.specs.Steps.{run_of}
+use Rattle.fit.specs.Fit.{won, begun, rounds, trace_of, fit_of, Answer, fit_answer}
+use Rattle.fit.specs.Steps.{fit_run}
 
 module _ (q : Problem) where
   pub after_begun : (s : State) (r t : ℕ) (x : Trace) → result_of q s r t (begun x) ≡ result_of q s (r + 1) t x
   after_begun s r t x =
       let n = x.rounds in
       let e : r + (n + 1) ≡ r + 1 + n = omega arith in
-      λ i. stopped q (last_of s x.accepted) x.converged (e i) (t + length x.trials)
+      λ i. stopped q (last_accepted s x.accepted) x.converged (e i) (t + length x.trials)
 
   -- what follows on a winner z, with m rounds left: the end, or the next round
   abbrev pub winner : ℕ → State → Float → Float → Trace
@@ -35,11 +35,11 @@ module _ (q : Problem) where
   rounds_done n i s l r t h = let e : n - i ≡ 0 = omega arith in rw e (at_end q s r t false)
 
   pub rounds_go : (n i : ℕ) (s : State) (l : Float) (r t : ℕ) → i < n
-      → result_of q s r t (rounds q (n - i) s l) ≡ result_of q s (r + 1) t (attempts q s (normal_of q s) (sum_of q s) (winner (n - (i + 1))) 12 l)
+      → result_of q s r t (rounds q (n - i) s l) ≡ result_of q s (r + 1) t (attempts q s (normal_blocks q s) (penalized_rss q s) (winner (n - (i + 1))) 12 l)
   unfolding rounds
   rounds_go n i s l r t h =
       let e : n - i ≡ suc (n - (i + 1)) = omega arith in
-      rw e (after_begun s r t (attempts q s (normal_of q s) (sum_of q s) (winner (n - (i + 1))) 12 l))
+      rw e (after_begun s r t (attempts q s (normal_blocks q s) (penalized_rss q s) (winner (n - (i + 1))) 12 l))
 
   -- ---- after a win: the fit goes on from z
 
@@ -62,11 +62,11 @@ module _ (q : Problem) where
         trials = x.trials;
       }
 
-  pub answer_is : (n : ℕ) → answered (run_of q n) ≡ answer_of q (fit_of q n)
-  unfolding run_of fit_of trace_of
+  pub answer_is : (n : ℕ) → answered (fit_run q n) ≡ fit_answer q (fit_of q n)
+  unfolding fit_run fit_of trace_of
   answer_is n =
-      let x = rounds q n (start_of q) (first_lambda q) in
+      let x = rounds q n (start_state q) (first_lambda q) in
       let a : 0 + x.rounds ≡ x.rounds = omega arith in
       let b : 0 + length x.trials ≡ length x.trials = omega arith in
-      let s = last_of (start_of q) x.accepted in
+      let s = last_accepted (start_state q) x.accepted in
       λ i. record { values = take (p q) s.values; effects = take (q.group_count * k q) s.effects; rss = rss_of q s; converged = x.converged; rounds = a i; trials = b i }

@@ -6,7 +6,7 @@ use native.Mathlib.Omega.{arith}
 use Rattle.std.specs.Prelude.{Some, None}
 use Rattle.fit_refusals.specs.Problem.{Problem}
 use Rattle.fit_refusals.specs.Given.{checked}
-use Rattle.fit_penalized.specs.Penalized.{sum_of}
+use Rattle.fit_penalized.specs.Penalized.{penalized_rss}
 use Rattle.fit_round.specs.declared.Evaluated.{Evaluated}
 use Rattle.fit_round.specs.Rounds.{evaluated_of}
 use Rattle.fit_round.specs.Round.{direction}
@@ -29,7 +29,7 @@ some : (c : After-solve) → c.solve.result ≡ true → direction (checked c.ar
 some c h = found c ∙ rw h refl
 
 -- the sum that a trial is decided by is its state's
-sum_of_lem : (q : Problem) (y : Evaluated) → y ≡ evaluated_of q y.state → y.sum ≡ sum_of q y.state
+sum_of_lem : (q : Problem) (y : Evaluated) → y ≡ evaluated_of q y.state → y.sum ≡ penalized_rss q y.state
 sum_of_lem q y e = ap (λ (z : Evaluated). z.sum) e ∙ evaluated_sum q y.state
 
 pub attempts-init : goal.attempts-init

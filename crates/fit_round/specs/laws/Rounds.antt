@@ -3,7 +3,7 @@ use Rattle.std.specs.Prelude.{◌≡◌, refl}
 use Rattle.std.proofs.Common.{◌∙◌, ap, sym}
 use Rattle.fit_refusals.specs.Problem.{Problem}
 use Rattle.fit_step.specs.declared.State.{State}
-use Rattle.fit_penalized.specs.Penalized.{rss_of, sum_of}
+use Rattle.fit_penalized.specs.Penalized.{rss_of, penalized_rss}
 use Rattle.fit_round.specs.declared.Evaluated.{Evaluated}
 use Rattle.fit_round.specs.Rounds.{evaluated_of}
 
@@ -14,7 +14,7 @@ module _ (q : Problem) (s : State) where
   pub evaluated_rss : (evaluated_of q s).rss ≡ rss_of q s
   evaluated_rss = refl
 
-  pub evaluated_sum : (evaluated_of q s).sum ≡ sum_of q s
+  pub evaluated_sum : (evaluated_of q s).sum ≡ penalized_rss q s
   evaluated_sum = refl
 
 -- what is made of a state is made of its own

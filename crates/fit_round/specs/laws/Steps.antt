@@ -11,9 +11,9 @@ use Rattle.fit_refusals.specs.Problem.{Problem}
 use Rattle.fit_step.specs.declared.State.{State}
 use Rattle.math.specs.Lists.{largest_of}
 use Rattle.fit_step.specs.Trial.{tried_of, step_of, lowered, raised}
-use Rattle.fit_penalized.specs.Penalized.{sum_of}
+use Rattle.fit_penalized.specs.Penalized.{penalized_rss}
 use Rattle.fit_round.specs.declared.Evaluated.{Evaluated}
-use Rattle.fit_round.specs.Round.{1e-10, Trace, ended, tried, last_of, direction, lengths, along, attempts}
+use Rattle.fit_round.specs.Round.{1e-10, Trace, ended, tried, last_accepted, direction, lengths, along, attempts}
 use Rattle.fit_round.specs.Steps.{stopped, result_of}
 
 module _ (q : Problem) where
@@ -29,7 +29,7 @@ module _ (q : Problem) where
   after_trial s r t z v x =
       let n = length x.trials in
       let e : t + suc n ≡ t + 1 + n = omega arith in
-      λ i. (stopped q) (last_of s x.accepted) x.converged (r + x.rounds) (e i)
+      λ i. (stopped q) (last_accepted s x.accepted) x.converged (r + x.rounds) (e i)
 
   module _ (s : State) (b : BlockNormal) (old : Float) (win : State → Float → Float → Trace) (r t : ℕ) where
     -- what follows on attempt a of n, if it fails
@@ -67,19 +67,19 @@ module _ (q : Problem) where
       lengths_done n j alpha h = let e : n - j ≡ 0 = omega arith in rw e
 
       -- the trial y is next, and wins or not
-      lengths_go : (n j : ℕ) (alpha : Float) (y : Evaluated) → j < n → y.state ≡ tried_of q s d alpha → y.sum ≡ sum_of q y.state
+      lengths_go : (n j : ℕ) (alpha : Float) (y : Evaluated) → j < n → y.state ≡ tried_of q s d alpha → y.sum ≡ penalized_rss q y.state
           → result_of q s r t (lengths q s b old win (n - j) next d l alpha)
           ≡ result_of q s r (t + 1) (cond (lt y.sum old) (win y.state (lowered l) (step_of alpha d)) (lengths q s b old win (n - (j + 1)) next d l (mul alpha half)))
       unfolding lengths
       lengths_go n j alpha y h e f =
           let m : n - j ≡ suc (n - (j + 1)) = omega arith in
           let w : Float → Trace = λ x. cond (lt x old) (win y.state (lowered l) (step_of alpha d)) (lengths q s b old win (n - (j + 1)) next d l (mul alpha half)) in
-          rw (m, ← e) (after_trial s r t y.state (sum_of q y.state) (w (sum_of q y.state)) ∙ ap (λ x. result_of q s r (t + 1) (w x)) (sym f))
+          rw (m, ← e) (after_trial s r t y.state (penalized_rss q y.state) (w (penalized_rss q y.state)) ∙ ap (λ x. result_of q s r (t + 1) (w x)) (sym f))
 
-      pub lengths_win : (n j : ℕ) (alpha : Float) (y : Evaluated) → j < n → y.state ≡ tried_of q s d alpha → y.sum ≡ sum_of q y.state → lt y.sum old ≡ true
+      pub lengths_win : (n j : ℕ) (alpha : Float) (y : Evaluated) → j < n → y.state ≡ tried_of q s d alpha → y.sum ≡ penalized_rss q y.state → lt y.sum old ≡ true
           → result_of q s r t (lengths q s b old win (n - j) next d l alpha) ≡ result_of q s r (t + 1) (win y.state (lowered l) (step_of alpha d))
       lengths_win n j alpha y h e f c = lengths_go n j alpha y h e f ∙ rw c refl
 
-      pub lengths_lose : (n j : ℕ) (alpha : Float) (y : Evaluated) → j < n → y.state ≡ tried_of q s d alpha → y.sum ≡ sum_of q y.state → lt y.sum old ≡ false
+      pub lengths_lose : (n j : ℕ) (alpha : Float) (y : Evaluated) → j < n → y.state ≡ tried_of q s d alpha → y.sum ≡ penalized_rss q y.state → lt y.sum old ≡ false
           → result_of q s r t (lengths q s b old win (n - j) next d l alpha) ≡ result_of q s r (t + 1) (lengths q s b old win (n - (j + 1)) next d l (mul alpha half))
       lengths_lose n j alpha y h e f c = lengths_go n j alpha y h e f ∙ rw c refl

@@ -13,11 +13,11 @@ use Rattle.fit_step.specs.declared.State.{State}
 use Rattle.fit_step.specs.Lists.{each}
 use Rattle.fit_step.specs.Constants.{1e-2, 1e-4}
 use Rattle.fit_step.specs.Project.{project_of, slot_of, project_groups}
-use Rattle.fit_step.specs.Trial.{on_scal, started, start_of, moved_of, values_tried, effects_tried, tried_of, step_of, lambda_of, lowered, raised}
+use Rattle.fit_step.specs.Trial.{on_scal, started, start_state, moved_of, values_tried, effects_tried, tried_of, step_of, lambda_of, lowered, raised}
 
 -- `unfolding state_computes` opens all that the values of this crate are computed by
 unfoldable pub state_computes : Unit {0}
-unfolding iter abs_of max_of min_of is_finite Ieee.add Ieee.sub Ieee.mul Ieee.lt Ieee.eq Ieee.is_nan n_params_of each scal_index_of project_of slot_of project_groups on_scal started start_of moved_of values_tried effects_tried tried_of largest_of step_of lambda_of lowered raised
+unfolding iter abs_of max_of min_of is_finite Ieee.add Ieee.sub Ieee.mul Ieee.lt Ieee.eq Ieee.is_nan n_params_of each scal_index_of project_of slot_of project_groups on_scal started start_state moved_of values_tried effects_tried tried_of largest_of step_of lambda_of lowered raised
 state_computes = tt
 
 -- 1 / 10 ^ n, and no bound
@@ -32,7 +32,7 @@ high = inf false
 
 -- a start, a trial's values and projected effects by what each reads of a problem
 abbrev starts_at : ℕ → List Float → List Float → List Float → State
-starts_at code starts lower upper = start_of (problem_of code [] [] [] 0 [] starts lower upper [] [] [])
+starts_at code starts lower upper = start_state (problem_of code [] [] [] 0 [] starts lower upper [] [] [])
 
 abbrev tries_at : ℕ → List Float → List Float → List Float → Float → List Float → List Float
 tries_at code lower upper d alpha values = values_tried (problem_of code [] [] [] 0 [] [] lower upper [] [] []) d alpha values

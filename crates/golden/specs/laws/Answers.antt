@@ -9,7 +9,7 @@ use Rattle.std.specs.Float.{nan}
 use Rattle.fit_refusals.specs.Problem.{Problem}
 use Rattle.golden.specs.Search.{asks, search_of, answers_of}
 use Rattle.golden.specs.declared.Bracket.{Bracket}
-use Rattle.golden.specs.Golden.{is_wide, new_point, narrowed, theta_of, ended, found_with, first, run, found_at, golden_by, answers_from, answers_by, listed, golden_over}
+use Rattle.golden.specs.Golden.{is_wide, new_point, narrowed, theta_of, run_ended, found_with, first, run, found_at, golden_by, answers_from, answers_by, listed, golden_over}
 
 module _ (ask : ℕ → Float → Float) (all : List Float) where
   -- the answers from fit f on stand in the list from place f on
@@ -24,18 +24,18 @@ module _ (ask : ℕ → Float → Float) (all : List Float) where
 
   same_run : (k n f : ℕ) (s : Bracket) → Holds f (answers_from ask k f s) → found_at (listed all) (run (listed all) k n f s) ≡ found_at ask (run ask k n f s)
   unfolding found_at run answers_from
-  same_run zero n f s h = ap (found_with (ended n f s)) (here f (ask f (theta_of s)) [] h)
+  same_run zero n f s h = ap (found_with (run_ended n f s)) (here f (ask f (theta_of s)) [] h)
   same_run (suc k) n f s h = go (is_wide s) (same_run k (n + 1) (f + 1) (narrowed s (new_point s) (ask f (new_point s)))) h
     where
       go : (b : Bool)
           → (Holds (f + 1) (answers_from ask k (f + 1) (narrowed s (new_point s) (ask f (new_point s))))
           → found_at (listed all) (run (listed all) k (n + 1) (f + 1) (narrowed s (new_point s) (ask f (new_point s)))) ≡ found_at ask (run ask k (n + 1) (f + 1) (narrowed s (new_point s) (ask f (new_point s)))))
           → Holds f (cond b (ask f (new_point s) ∷ answers_from ask k (f + 1) (narrowed s (new_point s) (ask f (new_point s)))) (ask f (theta_of s) ∷ []))
-          → found_at (listed all) (cond b (run (listed all) k (n + 1) (f + 1) (narrowed s (new_point s) (get_or all f nan))) (ended n f s))
-          ≡ found_at ask (cond b (run ask k (n + 1) (f + 1) (narrowed s (new_point s) (ask f (new_point s)))) (ended n f s))
+          → found_at (listed all) (cond b (run (listed all) k (n + 1) (f + 1) (narrowed s (new_point s) (get_or all f nan))) (run_ended n f s))
+          ≡ found_at ask (cond b (run ask k (n + 1) (f + 1) (narrowed s (new_point s) (ask f (new_point s)))) (run_ended n f s))
       go true more h =
           ap (λ (x : Float). found_at (listed all) (run (listed all) k (n + 1) (f + 1) (narrowed s (new_point s) x))) (here f (ask f (new_point s)) (answers_from ask k (f + 1) (narrowed s (new_point s) (ask f (new_point s)))) h) ∙ more (after f (ask f (new_point s)) (answers_from ask k (f + 1) (narrowed s (new_point s) (ask f (new_point s)))) h)
-      go false more h = ap (found_with (ended n f s)) (here f (ask f (theta_of s)) [] h)
+      go false more h = ap (found_with (run_ended n f s)) (here f (ask f (theta_of s)) [] h)
 
 pub golden_over_lem : (ask : ℕ → Float → Float) (allowed : ℕ) → golden_over (answers_by ask allowed) allowed ≡ golden_by ask allowed
 unfolding golden_over golden_by answers_by
@@ -64,7 +64,7 @@ counted ask (suc k) n f s = go (is_wide s) (counted ask k (n + 1) (f + 1) (narro
     go : (b : Bool)
         → length (answers_from ask k (f + 1) (narrowed s (new_point s) (ask f (new_point s)))) + (f + 1) ≡ (run ask k (n + 1) (f + 1) (narrowed s (new_point s) (ask f (new_point s)))).fits + 1
         → length (cond b (ask f (new_point s) ∷ answers_from ask k (f + 1) (narrowed s (new_point s) (ask f (new_point s)))) (ask f (theta_of s) ∷ [])) + f
-        ≡ (cond b (run ask k (n + 1) (f + 1) (narrowed s (new_point s) (ask f (new_point s)))) (ended n f s)).fits + 1
+        ≡ (cond b (run ask k (n + 1) (f + 1) (narrowed s (new_point s) (ask f (new_point s)))) (run_ended n f s)).fits + 1
     go true e = shift (length (answers_from ask k (f + 1) (narrowed s (new_point s) (ask f (new_point s))))) f ((run ask k (n + 1) (f + 1) (narrowed s (new_point s) (ask f (new_point s)))).fits + 1) e
     go false e = single f
 

@@ -5,7 +5,7 @@ use mathlib.Core.List.{List}
 use native.Mathlib.Omega.{arith}
 use lib.Ieee.{Float}
 use Rattle.fit_refusals.specs.Given.{checked}
-use Rattle.fit_penalized.specs.Normal.{blocks_of, normal_of}
+use Rattle.fit_penalized.specs.Normal.{blocks_of, normal_blocks}
 use Rattle.fit_round.specs.Steps.{stopped}
 use Rattle.fit.specs.laws.Steps.{rounds_done}
 use Rattle.fit.proofs.Turns.{ends_as, round_lost, round_converged, round_near, round_on}
@@ -13,7 +13,7 @@ use Rattle.fit.proofs.run.run.Goals as goal
 use Rattle.fit.proofs.run.run.Goals.{After-round-o}
 
 -- the blocks are those of the state that the round goes from
-blocks : (c : After-round-o) → c.normal-n.result ≡ normal_of (checked c.args.q.now) c.loop-i.x.state
+blocks : (c : After-round-o) → c.normal-n.result ≡ normal_blocks (checked c.args.q.now) c.loop-i.x.state
 blocks c = c.normal-n.ensures ∙ ap (λ (m : List (List Float)). blocks_of (checked c.args.q.now) m c.loop-i.x.state) c.sigma_inv_from_theta-inverse.ensures
 
 pub returns-then-w : goal.returns-then-w

@@ -7,7 +7,7 @@ use Rattle.fit_penalized.specs.Penalized.{Means}
 use Rattle.fit_round.specs.Rounds.{evaluated_of}
 use Rattle.fit_round.specs.Steps.{result_of}
 use Rattle.fit.specs.Fit.{rounds}
-use Rattle.fit.specs.Steps.{run_of}
+use Rattle.fit.specs.Steps.{fit_run}
 use Rattle.fit.proofs.run.run.Given as goal
 
 abbrev pub invariant-loop-i : goal.invariant-loop-i
@@ -18,5 +18,5 @@ invariant-loop-i l =
       long : length l.d ≡ length l.initial.d;
       sums : l.x ≡ evaluated_of q l.x.state;
       curves : Means q l.x.state l.means;
-      whole : result_of q l.x.state l.i l.trials (rounds q (l.allowed - l.i) l.x.state l.lambda) ≡ run_of q l.allowed;
+      whole : result_of q l.x.state l.i l.trials (rounds q (l.allowed - l.i) l.x.state l.lambda) ≡ fit_run q l.allowed;
     }
