@@ -25,7 +25,7 @@ use Rattle.fit_step.specs.declared.State.{State}
 use Rattle.fit_step.specs.Constants.{three_fifty, 1e-6}
 use Rattle.fit_step.specs.Project.{clamp_of, clamp_at, project_of, group_clamp, slot_at, slot_of, project_slot, project_groups}
 use Rattle.fit_step.specs.Trial.{at_place, on_scal, adjusted, floored, start_at, started, start_state, moved_at, moved_of, values_tried, effects_tried, tried_of}
-use Rattle.fit_step.specs.laws.Sized.{params_most}
+use Rattle.curves.specs.laws.Params.{params_most}
 use Rattle.fit.specs.Demand3.{Inside, InBounds}
 use Rattle.fit.proofs.Floats.{mul_finite, short}
 use Rattle.fit_refusals.specs.laws.Valid.{lower_number, upper_number}

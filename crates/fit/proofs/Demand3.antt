@@ -23,7 +23,7 @@ use Rattle.fit.specs.Demand3 as Claim
 use Rattle.fit.specs.Demand3.{InBounds, no_state, no_trial, winners_of}
 use Rattle.std.specs.List.{AllByRecursion}
 use Rattle.std.proofs.lemmas.List.Elements.{All-from_recursion}
-use Rattle.fit_step.specs.laws.Sized.{params_most}
+use Rattle.curves.specs.laws.Params.{params_most}
 use Rattle.fit.proofs.Bounds.{start_inside}
 use Rattle.fit.proofs.Descent.{Tried, TraceLaw, rounds_law}
 

@@ -29,7 +29,7 @@ use Rattle.fit.specs.Demand3.{InBounds, winners_of}
 use Rattle.fit.proofs.Floats.{short}
 use Rattle.std.specs.List.{AllByRecursion}
 use Rattle.std.proofs.lemmas.Bool.{cond_both}
-use Rattle.fit_step.specs.laws.Sized.{params_most}
+use Rattle.curves.specs.laws.Params.{params_most}
 use Rattle.fit.proofs.Bounds.{tried_inside}
 
 -- the lengths 1, 1/2, .. are at most 1

@@ -25,7 +25,7 @@ pub struct Fitted {
 // The last state's p values and groups times k effects are written, group after group, into two lists, as C lends them.
 // Not inlined: a caller's own arrays would lie on the stack beside the fit's.
 #[inline(never)]
-#[tactic(auto, using(fit_step::specs::laws::Sized::params_most, fit_refusals::specs::laws::Valid::few_effects, crate::proofs::Call::checked_done))]
+#[tactic(auto, using(curves::specs::laws::Params::params_most, fit_refusals::specs::laws::Valid::few_effects, crate::proofs::Call::checked_done))]
 pub fn fit_checked(
     q: &NlmmProblem<'_>,
     max_rounds: u64,

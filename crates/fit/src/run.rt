@@ -63,7 +63,7 @@ fn run(
 
 // The fit of a problem without fault, with room, as there is no heap, for a direction, of four curve values and two
 // effects of 32 groups, and for the curves of all readings.
-#[tactic(auto, using(fit_step::specs::laws::Sized::params_most, fit_step::specs::laws::Sized::all_fit))]
+#[tactic(auto, using(curves::specs::laws::Params::params_most, fit_step::specs::laws::Sized::all_fit))]
 pub fn inner_gauss_newton(q: &NlmmProblem<'_>, allowed: usize) -> Ended
     requires { allowed ≤ 1000 }
     ensures { result ≡ fit_run (checked q.now) allowed }

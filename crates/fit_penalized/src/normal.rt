@@ -36,7 +36,7 @@ fn fixed_gradients(q: &NlmmProblem<'_>, y: Mean) -> [f64; 4]
 }
 
 // The true gradients by the effects, whatever the bounds; for one effect the second is +0.
-#[tactic(auto, using(fit_step::specs::laws::Sized::params_most), unfolding(crate::specs::Normal::random_gradients))]
+#[tactic(auto, using(curves::specs::laws::Params::params_most), unfolding(crate::specs::Normal::random_gradients))]
 pub fn random_gradients(q: &NlmmProblem<'_>, y: Mean) -> [f64; 2]
     ensures { result ≡ random_gradients q.now.places.now y }
 {
@@ -50,7 +50,7 @@ pub fn random_gradients(q: &NlmmProblem<'_>, y: Mean) -> [f64; 2]
 }
 
 // Reading i, whose curve is y, accumulated in place.
-#[tactic(auto, using(fit_step::specs::laws::Sized::params_most, block_solve::specs::laws::Blocks::reading_lent, block_solve::specs::laws::Normal::accumulate_fits), unfolding(crate::specs::Normal::reading_of))]
+#[tactic(auto, using(curves::specs::laws::Params::params_most, block_solve::specs::laws::Blocks::reading_lent, block_solve::specs::laws::Normal::accumulate_fits), unfolding(crate::specs::Normal::reading_of))]
 fn add_reading(q: &NlmmProblem<'_>, i: usize, y: Mean, n: &mut BlockNormal)
     requires { i < length q.now.doses.now }
     ensures { n.new ≡ reading_of (checked q.now) i y n.old }

@@ -8,7 +8,7 @@ use Rattle.block_solve.specs.Direction.{finite_only, is_direction, left_in, fini
 use Rattle.block_solve.specs.laws.Direction.{solve_fits}
 use Rattle.fit_refusals.specs.Problem.{Problem, p, k}
 use Rattle.fit_refusals.specs.Valid.{Valid}
-use Rattle.fit_step.specs.laws.Sized.{params_most}
+use Rattle.curves.specs.laws.Params.{params_most}
 use Rattle.fit_round.specs.Round.{direction}
 
 some_by : (e b : Bool) (l d : List Float) → b ≡ is_some (cond e (Some l) None) → d ≡ l → cond e (Some l) None ≡ cond b (Some d) None

@@ -8,7 +8,7 @@ use Rattle.math.specs.Basic as Basic
 use Rattle.math.specs.Loops.{iter}
 use Rattle.fit_refusals.specs.Problem.{Problem}
 use Rattle.fit_refusals.specs.Valid.{Valid}
-use Rattle.fit_refusals.specs.laws.Valid.{params_few}
+use Rattle.curves.specs.laws.Params.{params_few}
 use Rattle.fit_step.specs.Lists.{each}
 use Rattle.fit_step.specs.Trial.{started, moved_at, moved_of}
 

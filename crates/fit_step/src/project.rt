@@ -20,7 +20,7 @@ pub fn clamp(lo: f64, hi: f64, v: f64) -> f64
 }
 
 // The first p values.
-#[tactic(auto, using(math::specs::laws::Loops::turns, crate::specs::laws::Sized::params_most), unfolding(crate::specs::Project::project_of, crate::specs::Lists::each))]
+#[tactic(auto, using(math::specs::laws::Loops::turns, curves::specs::laws::Params::params_most), unfolding(crate::specs::Project::project_of, crate::specs::Lists::each))]
 pub fn project_params(q: &NlmmProblem<'_>, values: &mut [f64; 4])
     ensures { values.new ≡ project_of (checked q.now) values.old }
 {
@@ -44,7 +44,7 @@ fn clamp_slot(q: &NlmmProblem<'_>, r: usize, lo: f64, hi: f64, beta: f64, b: &mu
 }
 
 // Where neither group bound of its value is finite, an effect keeps its bits.
-#[tactic(auto, using(crate::specs::laws::Sized::params_most))]
+#[tactic(auto, using(curves::specs::laws::Params::params_most))]
 fn project_slot(q: &NlmmProblem<'_>, r: usize, values: &[f64; 4], b: &mut [f64; 64])
     requires { r < k (checked q.now) }
     ensures { b.new ≡ project_slot (checked q.now) values.now r b.old }

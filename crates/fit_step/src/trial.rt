@@ -97,7 +97,7 @@ fn advance(list: &mut [f64], d: &[f64], alpha: f64)
 }
 
 // The floor comes before the projection.
-#[tactic(auto, using(crate::specs::laws::Sized::params_most, crate::proofs::Laws::few_moved, crate::proofs::Laws::moved_first), unfolding(crate::specs::Trial::values_tried))]
+#[tactic(auto, using(curves::specs::laws::Params::params_most, crate::proofs::Laws::few_moved, crate::proofs::Laws::moved_first), unfolding(crate::specs::Trial::values_tried))]
 fn try_values(q: &NlmmProblem<'_>, values: &mut [f64; 4], d: &[f64], alpha: f64)
     requires { p (checked q.now) ≤ length d.now }
     ensures { values.new ≡ values_tried (checked q.now) d.now alpha values.old }

@@ -19,7 +19,7 @@ pub struct Asked<'a> {
 
 impl Asked<'_> {
     // At theta t, from the given start; the curve values and the effects are not kept.
-    #[tactic(auto, using(fit_step::specs::laws::Sized::params_most, fit_step::specs::laws::Sized::all_fit, crate::proofs::Room::room), unfolding(crate::specs::Search::criterion_at))]
+    #[tactic(auto, using(curves::specs::laws::Params::params_most, fit_step::specs::laws::Sized::all_fit, crate::proofs::Room::room), unfolding(crate::specs::Search::criterion_at))]
     pub fn criterion(&self, t: f64) -> f64
         requires { is_finite t ≡ true }
         ensures { result ≡ criterion_at (checked self.now.problem.now) self.now.max_rounds self.now.reml self.now.n_agq t }

@@ -1,5 +1,5 @@
 -- A fit or a search without faults has what specs/Valid.antt says. Assumes nothing.
-use Rattle.std.specs.Prelude.{ℕ, zero, suc, ◌*◌, ◌≤◌, ◌<◌, ◌≡◌, Bool, true, cond, List, [], ◌∷◌, ◌++◌, eqb, Float, get_or}
+use Rattle.std.specs.Prelude.{ℕ, zero, suc, ◌*◌, ◌≤◌, ◌<◌, ◌≡◌, Bool, true, List, [], ◌∷◌, ◌++◌, eqb, Float, get_or}
 use Rattle.std.proofs.Math.Path.{refl}
 use Rattle.std.proofs.Common.{zero-lt-suc, mul-le-mul, arith}
 use Rattle.std.proofs.Math.Bool.{false}
@@ -9,10 +9,8 @@ use Rattle.std.specs.Float.{inf, fin}
 use borrow.Author.Tests.{ltb-true, ltb-false, eqb-true, eqb-false, eq-eqb, not-false}
 use Rattle.math.specs.Basic.{is_finite}
 use Rattle.math.specs.laws.Lists.{every_at}
-use Rattle.math.specs.laws.Numbers as Numbers
 use Rattle.math.specs.laws.Order.{clash', above_num}
 use Rattle.std.proofs.lemmas.Bool.{or_parts}
-use Rattle.curves.specs.MeanFn.{n_params_of}
 use Rattle.fit_faults.specs.laws.Lists.{order_at}
 use Rattle.fit_faults.specs.Tests.{is_lower, is_upper, bad_code, bad_readings, bad_groups, bad_effects, bad_lengths, bad_theta, bad_numbers, bad_order, bad_outputs, too_many}
 use Rattle.fit_refusals.specs.Problem.{Problem, p, k, at_theta}
@@ -180,20 +178,8 @@ module _ (q : Problem) (rounds narrowings : ℕ) (ok : search_refusal_of q round
 
 -- ---- sizes and numbers
 
-pub params_few : (code : ℕ) → (2 ≤ n_params_of code) × (n_params_of code ≤ 4)
-unfolding n_params_of
-params_few code = picked (eqb code 3) (eqb code 4)
-  where
-    picked : (a b : Bool) → (2 ≤ cond a 2 (cond b 4 3)) × (cond a 2 (cond b 4 3) ≤ 4)
-    picked true b = (omega arith, omega arith)
-    picked false true = (omega arith, omega arith)
-    picked false false = (omega arith, omega arith)
-
 pub few_effects : (q : Problem) → Sized q → q.group_count * k q ≤ 64
 few_effects q s = mul-le-mul s.groups_high s.effects_high
-
-pub finite_number : (x : Float) → is_finite x ≡ true → is_nan x ≡ false
-finite_number x h = Numbers.finite_number x h
 
 pub lower_number : (x : Float) → is_lower x ≡ true → is_nan x ≡ false
 unfolding lt is_nan

@@ -1,19 +1,11 @@
--- p is at most 4, and the effects fit their 64 places.
-use Rattle.std.specs.Prelude.{ℕ, ◌+◌, ◌*◌, ◌≤◌, ◌<◌, ◌≡◌}
+-- The effects fit their 64 places.
+use Rattle.std.specs.Prelude.{ℕ, ◌+◌, ◌*◌, ◌≤◌, ◌<◌}
 use Rattle.std.proofs.Common.{lt_of_lt_of_le, mul-le-mul_right, arith}
 use Rattle.math.specs.laws.Parts.{group_fits}
-use Rattle.curves.specs.MeanFn.{n_params_of}
+use Rattle.curves.specs.laws.Params.{params_most}
 use Rattle.fit_refusals.specs.Problem.{Problem}
 use Rattle.fit_refusals.specs.Valid.{Sized}
-use Rattle.fit_refusals.specs.laws.Valid.{params_few}
 use Rattle.fit_step.specs.Sized.{Effects, Readings}
-
--- p is at most 4
-pub params_most : (code : ℕ) → n_params_of code ≤ 4
-params_most code = (params_few code).1
-
-pub few_params : (p code : ℕ) → p ≡ n_params_of code → p ≤ 4
-few_params p code e = rw e (params_most code)
 
 -- the effects of at most 32 groups lie within the 64 places, and so do one group's
 pub all_fit : (group_count k : ℕ) → group_count ≤ 32 → k ≤ 2 → group_count * k ≤ 64

@@ -4,7 +4,7 @@ use lib.Ieee.{neg, inf, of_bits}
 use mathlib.Core.Bool.{false}
 use Rattle.std.proofs.lemmas.List.{take-replicate}
 use Rattle.curves.specs.MeanFn.{n_params_of}
-use Rattle.fit_refusals.specs.laws.Valid.{params_few}
+use Rattle.curves.specs.laws.Params.{params_few}
 use Rattle.refit_calculation.specs.Refit.{with_starts}
 use Rattle.refit_calculation.proofs.started.Goals as goal
 

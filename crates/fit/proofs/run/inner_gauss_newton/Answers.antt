@@ -4,7 +4,8 @@ use Prim.Native.Nat.{◌+◌, ◌*◌, ◌≤◌}
 use native.Mathlib.Omega.{arith}
 use lib.ListN.{length}
 use Rattle.curves.specs.MeanFn.{code_of}
-use Rattle.fit_step.specs.laws.Sized.{params_most, all_fit}
+use Rattle.curves.specs.laws.Params.{params_most}
+use Rattle.fit_step.specs.laws.Sized.{all_fit}
 use Rattle.fit.proofs.Lists.{some_places}
 use Rattle.fit.proofs.run.inner_gauss_newton.Goals as goal
 use Rattle.fit.proofs.run.inner_gauss_newton.Goals.{After-n_params}

@@ -1,7 +1,7 @@
 -- A curve has at most the four values that its gradients are kept for, and as many effects as are kept.
 use Rattle.std.proofs.Common.{length-take, arith}
 use Rattle.curves.specs.MeanFn.{code_of}
-use Rattle.fit_step.specs.laws.Sized.{params_most}
+use Rattle.curves.specs.laws.Params.{params_most}
 use Rattle.fit_penalized.specs.Normal.{fixed_gradients}
 use Rattle.fit_penalized.proofs.normal.add_reading.Goals as goal
 
