@@ -2,14 +2,25 @@
 ghost use Rattle.std.specs.Prelude.{◌≡◌, ◌≤◌, length};
 ghost use Rattle.fit_refusals.specs.Problem.{direction_length};
 ghost use Rattle.fit_refusals.specs.Given.{checked};
-ghost use Rattle.fit.specs.Steps.{fit_run, ended_with};
+ghost use Rattle.fit.specs.Steps.{fit_run, ending_of, ended_with};
 
 use curves::Mean;
 use fit_penalized::normal::normal;
 use fit_refusals::{MAX_READINGS, NlmmProblem};
-use fit_round::{End, Ended, Evaluated, NEAR, evaluate_state, round};
+use fit_round::{End, Evaluated, NEAR, evaluate_state, round};
+use fit_step::State;
 use fit_step::trial::{first_lambda, start_state};
 use re_cov::sigma_inv_from_theta;
+
+// What a run of rounds ends in. converged is an answer, beside values that stand either way.
+#[derive(Clone, Copy)]
+pub struct Ended {
+    pub state: State,
+    pub rss: f64,
+    pub converged: bool,
+    pub rounds: usize,
+    pub trials: usize,
+}
 
 // The rss that is answered was worked out with the state.
 fn end_with(x: &Evaluated, converged: bool, rounds: usize, trials: usize) -> Ended
@@ -36,7 +47,7 @@ fn run(
 ) -> Ended
     requires long { length d.old ≡ direction_length (checked q.now) }
     requires few { allowed ≤ 1000 }
-    ensures { result ≡ fit_run (checked q.now) allowed }
+    ensures { ending_of result ≡ fit_run (checked q.now) allowed }
 {
     let inverse = sigma_inv_from_theta(q.places.len(), q.theta);
     let mut x = evaluate_state(q, start_state(q), means);
@@ -66,7 +77,7 @@ fn run(
 #[tactic(auto, using(curves::specs::laws::Params::params_most, fit_step::specs::laws::Sized::all_fit))]
 pub fn inner_gauss_newton(q: &NlmmProblem<'_>, allowed: usize) -> Ended
     requires { allowed ≤ 1000 }
-    ensures { result ≡ fit_run (checked q.now) allowed }
+    ensures { ending_of result ≡ fit_run (checked q.now) allowed }
 {
     let mut d = [0.0; 68];
     let none = Mean {

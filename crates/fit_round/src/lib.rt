@@ -56,17 +56,6 @@ pub struct Outcome {
     pub trials: usize,
 }
 
-// What a run of rounds ends in. It stands here since a round's contract says what the round makes of it. converged is an
-// answer, beside values that stand either way.
-#[derive(Clone, Copy)]
-pub struct Ended {
-    pub state: State,
-    pub rss: f64,
-    pub converged: bool,
-    pub rounds: usize,
-    pub trials: usize,
-}
-
 // The rss and the penalised sum of a state; its curves are left in means, a list that is lent beside the state and no field
 // of it: there is no heap, and each state of a fit would have room for 512 curves.
 #[tactic(auto, using(fit_step::specs::laws::Sized::all_fit), unfolding(fit_penalized::specs::Penalized::penalized_rss))]

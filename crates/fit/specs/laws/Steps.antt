@@ -10,9 +10,8 @@ use Rattle.fit_step.specs.declared.State.{State}
 use Rattle.fit_step.specs.Trial.{start_state, first_lambda}
 use Rattle.fit_penalized.specs.Penalized.{rss_of, penalized_rss}
 use Rattle.fit_penalized.specs.Normal.{normal_blocks}
-use Rattle.fit_round.specs.declared.Ended.{Ended}
 use Rattle.fit_round.specs.Round.{1e-10, Trace, ended, last_accepted, attempts}
-use Rattle.fit_round.specs.Steps.{stopped, result_of}
+use Rattle.fit_round.specs.Steps.{Ending, stopped, result_of}
 use Rattle.fit_round.specs.laws.Steps.{at_end}
 use Rattle.fit.specs.Fit.{won, begun, rounds, trace_of, fit_of, Answer, fit_answer}
 use Rattle.fit.specs.Steps.{fit_run}
@@ -51,7 +50,7 @@ module _ (q : Problem) where
 
   -- ---- the whole: what the run ends in is the answer
 
-  abbrev pub answered : Ended → Answer
+  abbrev pub answered : Ending → Answer
   answered x =
       record {
         values = take (p q) x.state.values;
