@@ -8,7 +8,7 @@ use Rattle.math.specs.Basic as Basic
 use Rattle.math.specs.Loops.{iter}
 use Rattle.fit_refusals.specs.Problem.{Problem}
 use Rattle.fit_refusals.specs.Valid.{Valid}
-use Rattle.curves.specs.laws.Params.{params_few}
+use Rattle.curves.specs.laws.Params.{params_most}
 use Rattle.fit_step.specs.Lists.{each}
 use Rattle.fit_step.specs.Trial.{started, moved_at, moved_of}
 
@@ -27,7 +27,7 @@ copied (a ∷ b ∷ c ∷ d ∷ e ∷ l) h = absurd (over_four (length l) h)
 
 pub started_is : (q : Problem) → Valid q → q.starts ++ drop (length q.starts) (replicate 4 Basic.zero) ≡ started q
 unfolding started
-started_is q valid = rw (← valid.starts) (copied q.starts (omega (arith, (params_few q.code).1, valid.starts)))
+started_is q valid = rw (← valid.starts) (copied q.starts (omega (arith, params_most q.code, valid.starts)))
 
 -- what moves each number is read below n
 same_moves : (n a b : ℕ) (d e : List Float) (alpha : Float) (l : List Float) → ((j : ℕ) → j < n → get_or d (a + j) nan ≡ get_or e (b + j) nan)
