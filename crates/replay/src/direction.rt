@@ -1,4 +1,11 @@
-// One judge for each operation: reads the rest of a line after its name, computes and compares.
+// The linear algebra of a fit, its matrices row after row:
+//
+//     solve N LIST(a) LIST(b) = ANSWER
+//     inverse LIST(a) = ANSWER
+//     cholesky LIST(a) = ANSWER
+//     direction P K GROUPS LIST(fixed) LIST(cross) LIST(random) LIST(fixed_rhs) LIST(random_rhs) DAMPING = ANSWER
+//
+// ANSWER is `1 LIST`, or `0` where there is none.
 use crate::matrices::{Shape, read_matrices};
 use block_solve::normal::BlockNormal;
 use linalg::elimination::{System, solve};

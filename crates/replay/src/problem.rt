@@ -1,79 +1,104 @@
-// One judge for each call: reads the rest of a line after its case, calls and compares. The lent lists and the
-// single outputs of a refused call keep what they held. Rooms of fixed size, as a caller in C has them.
+// The public operations that take a whole problem:
+//
+//     fit PROBLEM LIST(theta) MAX_ROUNDS N_VALUES N_EFFECTS_OUT
+//         = NUMBER LIST(values) LIST(effects_out) rss converged rounds trials
+//     criterion PROBLEM LIST(theta) MAX_ROUNDS REML N_AGQ N_VALUES N_EFFECTS_OUT
+//         = NUMBER LIST(values) LIST(effects_out) criterion sigma2
+//     search PROBLEM MAX_ROUNDS REML N_AGQ MAX_NARROWINGS
+//         = NUMBER theta criterion narrowings converged fits
+//
+//     PROBLEM = CODE LIST(doses) LIST(grams) LIST(groups) GROUP_COUNT LIST(effects)
+//               LIST(starts) LIST(lower) LIST(upper) LIST(group_lower) LIST(group_upper)
+use crate::answer::says_answer;
+use crate::rooms::{EFFECTS, READINGS, SHORT};
 use fit_refusals::Problem;
-use refusal::Refusal;
-use replay_cases::lent::{KEPT, kept, outputs};
+use replay_cases::lent::kept;
 use replay_cases::words::Words;
 
-// The lengths of the lent lists and the answer of `call`, which is lent them: whether its number and the lists agree, and what its
-// other outputs hold after it, which hold `before` until then.
-fn judge_lent<T: Copy, K: FnOnce(&mut [f64], &mut [f64]) -> Result<T, Refusal>>(
+// Reads a problem without its theta, and has `judge` read the rest of the line.
+pub fn judge_problem<J: Fn(&mut Words<'_>, Problem<'_>) -> Option<bool>>(
     words: &mut Words<'_>,
-    before: T,
-    call: K,
-) -> Option<(bool, T)>
-    requires { K.IsAlwaysCallable call }
+    judge: J,
+) -> Option<bool>
+    requires { J.IsAlwaysCallable judge }
 {
-    let mut values = [kept(); 8];
-    let mut effects = [kept(); 80];
-    let values = values.get_mut(..words.value()?)?;
-    let effects = effects.get_mut(..words.value()?)?;
-    words.named(b"=")?;
-    let (number, after) = outputs(call(values, effects), before);
-    // `&` reads every word, also after one that differs.
-    let agrees = words.says(number)? & words.says_list(values)? & words.says_list(effects)?;
-    Some((agrees, after))
+    let mut doses = [0.0; READINGS];
+    let mut grams = [0.0; READINGS];
+    let mut group = [0; READINGS];
+    let mut effects = [0; SHORT];
+    let mut starts = [0.0; SHORT];
+    let mut lower = [0.0; SHORT];
+    let mut upper = [0.0; SHORT];
+    let mut group_lower = [0.0; SHORT];
+    let mut group_upper = [0.0; SHORT];
+    let problem = Problem {
+        code: words.value()?,
+        doses: words.list(&mut doses)?,
+        grams: words.list(&mut grams)?,
+        group: words.list(&mut group)?,
+        groups: words.value()?,
+        effects: words.list(&mut effects)?,
+        starts: words.list(&mut starts)?,
+        lower: words.list(&mut lower)?,
+        upper: words.list(&mut upper)?,
+        group_lower: words.list(&mut group_lower)?,
+        group_upper: words.list(&mut group_upper)?,
+        theta: &[],
+    };
+    judge(words, problem)
 }
 
-// Theta, the rounds, the lengths of the lent lists and the answer.
-pub fn judge_fit(words: &mut Words<'_>, case: Problem<'_>) -> Option<bool> {
-    let mut theta = [0.0; 8];
+pub fn judge_fit(words: &mut Words<'_>, problem: Problem<'_>) -> Option<bool> {
+    let mut theta = [0.0; SHORT];
+    let mut values = [kept(); SHORT];
+    let mut effects = [kept(); EFFECTS];
     let problem = Problem {
         theta: words.list(&mut theta)?,
-        ..case
+        ..problem
     };
     let max_rounds = words.value()?;
-    let before = (kept(), [KEPT; 3]);
-    let (agrees, (rss, counts)) = judge_lent(words, before, |values, effects| {
-        let f = fit::fit(&problem, max_rounds, values, effects)?;
-        Ok((
-            f.rss,
+    let values = values.get_mut(..words.value()?)?;
+    let effects = effects.get_mut(..words.value()?)?;
+    let answer = fit::fit(&problem, max_rounds, values, effects).map(|f| {
+        (
+            [f.rss],
             [u64::from(f.converged), f.rounds as u64, f.trials as u64],
-        ))
-    })?;
-    Some(agrees & words.says(rss)? & words.says_each(&counts)?)
+        )
+    });
+    says_answer(words, &[values, effects], answer)
 }
 
-// Theta, the rounds, the flag and the order, the lengths of the lent lists and the answer.
-pub fn judge_criterion(words: &mut Words<'_>, case: Problem<'_>) -> Option<bool> {
-    let mut theta = [0.0; 8];
+pub fn judge_criterion(words: &mut Words<'_>, problem: Problem<'_>) -> Option<bool> {
+    let mut theta = [0.0; SHORT];
+    let mut values = [kept(); SHORT];
+    let mut effects = [kept(); EFFECTS];
     let problem = Problem {
         theta: words.list(&mut theta)?,
-        ..case
+        ..problem
     };
     let max_rounds = words.value()?;
     let reml = words.value::<u64>()? != 0;
     let n_agq = words.value()?;
-    let (agrees, floats) = judge_lent(words, [kept(); 2], |values, effects| {
-        let p = criterion::criterion(&problem, max_rounds, reml, n_agq, values, effects)?;
-        Ok([p.criterion, p.sigma2])
-    })?;
-    Some(agrees & words.says_each(&floats)?)
+    let values = values.get_mut(..words.value()?)?;
+    let effects = effects.get_mut(..words.value()?)?;
+    let answer = criterion::criterion(&problem, max_rounds, reml, n_agq, values, effects).map(|p| (
+        [p.criterion, p.sigma2],
+        [],
+    ));
+    says_answer(words, &[values, effects], answer)
 }
 
-// The rounds, the flag and the order, the narrowings and the answer. No list is lent.
-pub fn judge_search(words: &mut Words<'_>, case: Problem<'_>) -> Option<bool> {
+// A search reads no theta, and is lent no list.
+pub fn judge_search(words: &mut Words<'_>, problem: Problem<'_>) -> Option<bool> {
     let max_rounds = words.value()?;
     let reml = words.value::<u64>()? != 0;
     let n_agq = words.value()?;
     let max_narrowings = words.value()?;
-    words.named(b"=")?;
-    let answer = golden::search(&case, max_rounds, reml, n_agq, max_narrowings).map(|f| {
+    let answer = golden::search(&problem, max_rounds, reml, n_agq, max_narrowings).map(|f| {
         (
             [f.theta, f.criterion],
             [f.narrowings, u64::from(f.converged), f.fits],
         )
     });
-    let (number, (floats, counts)) = outputs(answer, ([kept(); 2], [KEPT; 3]));
-    Some(words.says(number)? & words.says_each(&floats)? & words.says_each(&counts)?)
+    says_answer(words, &[], answer)
 }

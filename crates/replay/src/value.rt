@@ -1,24 +1,15 @@
-// Replays fdlibm's answers: each line of standard input is `exp X = Y`, `ln X = Y` or `sqrt X = Y`,
-// and what math computes at X must have the bits of Y. All NaNs count as one value.
-#![tactic(auto)]
+// The functions of one value:
+//
+//     exp X = Y
+//     ln X = Y
+//     sqrt X = Y
+//     gh_order ASKED = NUMBER
+use replay_cases::words::{Value, Words};
 
-use replay_cases::replay::replay_input;
-use replay_cases::words::Words;
-use std::io;
-
-// The rest of a line after the operation's name: `X = Y`.
-fn judge(name: &str, words: &mut Words<'_>) -> Option<bool> {
+pub fn judge_value<T: Value, F: Fn(T) -> T>(words: &mut Words<'_>, of: F) -> Option<bool>
+    requires { F.IsAlwaysCallable of }
+{
     let x = words.value()?;
     words.named(b"=")?;
-    let y = match name {
-        "exp" => math::exp::exp(x),
-        "ln" => math::ln::ln(x),
-        "sqrt" => math::sqrt::sqrt(x),
-        _ => return None,
-    };
-    words.says(y)
-}
-
-fn main(rt: HostRuntime) -> io::Result<()> {
-    replay_input(&rt, &["exp", "ln", "sqrt"], judge)
+    words.says(of(x))
 }
