@@ -3,31 +3,25 @@ ghost use Rattle.std.specs.Prelude.{◌<◌};
 
 use replay_cases::words::Words;
 
-// So many matrices of rows and columns, each in the upper left of a block of `size` places, `width` to a row.
-#[derive(Clone, Copy)]
-pub struct Shape {
-    pub count: usize,
-    pub rows: usize,
-    pub columns: usize,
-    pub size: usize,
-    pub width: usize,
-}
-
-// A list of the matrices' entries, row after row and matrix after matrix, into the blocks of `to`.
-pub fn read_matrices(words: &mut Words<'_>, shape: Shape, to: &mut [f64]) -> Option<()>
-    requires size { 0 < shape.size }
-    requires width { 0 < shape.width }
+// A list of the entries of `count` matrices of rows and columns, row after row and matrix after matrix, each put in the upper left of a
+// block of SIZE places, WIDTH to a row. A list of another length is a fault, and so is a row that is longer.
+pub fn read_matrices<const SIZE: usize, const WIDTH: usize>(
+    words: &mut Words<'_>,
+    count: usize,
+    rows: usize,
+    columns: usize,
+    to: &mut [f64],
+) -> Option<()>
+    requires size { 0 < SIZE }
+    requires width { 0 < WIDTH }
 {
-    let entries = shape
-        .count
-        .checked_mul(shape.rows)?
-        .checked_mul(shape.columns)?;
+    let entries = count.checked_mul(rows)?.checked_mul(columns)?;
     if words.value::<usize>()? != entries {
         return None;
     }
-    for block in to.chunks_mut(shape.size).take(shape.count) {
-        for row in block.chunks_mut(shape.width).take(shape.rows) {
-            words.values(row.get_mut(..shape.columns)?)?;
+    for block in to.chunks_mut(SIZE).take(count) {
+        for row in block.chunks_mut(WIDTH).take(rows) {
+            words.values(row.get_mut(..columns)?)?;
         }
     }
     Some(())
