@@ -1,6 +1,20 @@
 // Replays stored answers, those of StrictMath (vectors/README.md) and of the published Rust (oracle/README.md). A line of standard input
 // is an operation's name, a case and its answer (oracle/FORMAT.md), and what is computed must be the numbers and have the bits of the
 // floats; all NaNs count as one value.
+//
+// The last 14 lines are wrong on purpose, so that a replay which counts differences as agreements prints another text than `stdout`. Each
+// of the first 13 is a line from above with another answer, one for each operation in turn:
+//
+//     exp, ln, sqrt, curve, solve, direction    the last bit of the last float
+//     gh_order                                  the next rule
+//     start                                     the next refusal
+//     inverse                                   zeros where there is none
+//     cholesky                                  none where there is one
+//     fit                                       the last bit of the last effect
+//     criterion                                 the last bit of the last value
+//     search                                    one fit more
+//
+// The 14th lacks its last word, and is malformed.
 #![tactic(auto)]
 
 mod answer;
