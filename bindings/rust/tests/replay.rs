@@ -1,5 +1,6 @@
 //! The repository's stored answers (StrictMath's, and the published Rust's), replayed through this crate: every float in
-//! all bits, NaNs as one value, and what refused calls must keep. The format is oracle/FORMAT.md's.
+//! all bits, NaNs as one value, and what refused calls must keep. The format is oracle/FORMAT.md's, and
+//! crates/replay/src/main.rt says which lines are wrong on purpose.
 
 use kemroul::{Curve, Effects, Likelihood, Problem, Refusal, Theta};
 use std::path::Path;
@@ -50,77 +51,81 @@ fn all_same(x: &[f64], y: &[f64]) -> bool {
     x.len() == y.len() && x.iter().zip(y).all(|(&x, &y)| same(x, y))
 }
 
-/// The case and the answer of each line of these operations. `replayed` says whether the types can express the case; it
-/// compares by itself.
-fn replay(program: &str, operations: &[&str], replayed: impl Fn(&mut Words, &mut Words) -> bool) -> (usize, usize) {
-    let stored = Path::new(env!("CARGO_MANIFEST_DIR"))
-        .join("../../crates")
-        .join(program)
-        .join("stdin");
+/// Replays the lines of these operations. `judge` says whether an answer to the case is the stored one, and `None` where the
+/// types cannot express the case. The last line of each operation is wrong on purpose. Counts the others, which must agree,
+/// and those that cannot be expressed.
+fn replay(operations: &[&str], judge: impl Fn(&mut Words, &mut Words) -> Option<bool>) -> (usize, usize) {
+    let stored = Path::new(env!("CARGO_MANIFEST_DIR")).join("../../crates/replay/stdin");
     let text = std::fs::read_to_string(&stored).unwrap_or_else(|e| panic!("{}: {e}", stored.display()));
-    let mut counts = (0, 0);
-    for line in text
-        .lines()
-        .filter(|line| operations.contains(&Words::new(line).word()))
-    {
+    let agrees = |line: &str| {
         let (case, answer) = line.split_once(" = ").expect("an answer line");
-        match replayed(&mut Words::new(case), &mut Words::new(answer)) {
-            true => counts.0 += 1,
-            false => counts.1 += 1,
+        judge(&mut Words::new(case), &mut Words::new(answer))
+    };
+    let mut counts = (0, 0);
+    for operation in operations {
+        let lines: Vec<&str> = text
+            .lines()
+            .filter(|line| Words::new(line).word() == *operation)
+            .collect();
+        let (wrong, right) = lines.split_last().expect("a wrong line");
+        for line in right {
+            match agrees(line) {
+                Some(agrees) => {
+                    assert!(agrees, "{line}");
+                    counts.0 += 1;
+                }
+                None => counts.1 += 1,
+            }
         }
+        assert_eq!(agrees(wrong), Some(false), "{wrong}");
     }
     counts
 }
 
 #[test]
 fn strictmath() {
-    let counts = replay("replay_math", &["exp", "ln", "sqrt"], |case, answer| {
+    let counts = replay(&["exp", "ln", "sqrt"], |case, answer| {
         let function = match case.word() {
             "exp" => kemroul::exp,
             "ln" => kemroul::ln,
             "sqrt" => kemroul::sqrt,
             other => panic!("{other}"),
         };
-        let x = case.float();
-        assert!(same(function(x), answer.float()), "at {x:e}");
-        true
+        Some(same(function(case.float()), answer.float()))
     });
     assert!(counts.0 > 10_000 && counts.1 == 0);
 }
 
 #[test]
 fn curves_and_orders() {
-    let counts = replay("replay_curve", &["curve", "gh_order"], |case, answer| {
+    let counts = replay(&["curve", "gh_order"], |case, answer| {
         if case.word() == "gh_order" {
-            assert_eq!(kemroul::gh_order(case.whole()).unwrap_or(0), answer.whole());
-            return true;
+            return Some(kemroul::gh_order(case.whole()).unwrap_or(0) == answer.whole());
         }
         let (code, values, dose) = (case.whole(), case.floats(), case.float());
         let number = answer.whole();
         let answered = Curve::from_code(code).and_then(|curve| curve.at(&values, dose));
-        match answered {
-            Err(refusal) => assert_eq!(refusal.number(), number),
+        Some(match answered {
+            Err(refusal) => refusal.number() == number,
             Ok(mean) => {
-                assert_eq!(number, 0);
-                assert!(same(mean.grams, answer.float()) && mean.gradient.iter().all(|&d| same(d, answer.float())));
+                number == 0
+                    && same(mean.grams, answer.float())
+                    && mean.gradient.iter().all(|&d| same(d, answer.float()))
             }
-        }
-        true
+        })
     });
     assert!(counts.0 > 1_000 && counts.1 == 0);
 }
 
 #[test]
 fn starts() {
-    let counts = replay("replay_start", &["start"], |case, answer| {
+    let counts = replay(&["start"], |case, answer| {
         case.word();
         let (code, doses, grams, n) = (case.whole(), case.floats(), case.floats(), case.whole() as usize);
         let (number, written) = (answer.whole(), answer.floats());
         let mut values = vec![f64::from_bits(KEPT); n];
         let answered = Curve::from_code(code).and_then(|curve| curve.start(&doses, &grams, &mut values));
-        assert_eq!(answered.map_or_else(Refusal::number, |()| 0), number);
-        assert!(all_same(&values, &written));
-        true
+        Some(answered.map_or_else(Refusal::number, |()| 0) == number && all_same(&values, &written))
     });
     assert!(counts.0 > 500 && counts.1 == 0);
 }
@@ -202,23 +207,22 @@ fn lent(case: &mut Words) -> [Vec<f64>; 2] {
 
 #[test]
 fn fits() {
-    let (replayed, left) = replay("replay_problem", &["fit"], |case, answer| {
-        let (Some(c), Some(theta)) = (case_of(case), theta_of(case)) else {
-            return false;
-        };
+    let (replayed, left) = replay(&["fit"], |case, answer| {
+        let (c, theta) = (case_of(case)?, theta_of(case)?);
         let max_rounds = case.whole();
         let [mut values, mut effects] = lent(case);
         let answered = c
             .problem()
             .and_then(|p| p.fit(&theta, max_rounds, &mut values, &mut effects));
-        assert_eq!(answered.map_or_else(Refusal::number, |_| 0), answer.whole());
-        assert!(all_same(&values, &answer.floats()) && all_same(&effects, &answer.floats()));
+        let mut agrees = answered.map_or_else(Refusal::number, |_| 0) == answer.whole();
+        agrees &= all_same(&values, &answer.floats());
+        agrees &= all_same(&effects, &answer.floats());
         let (rss, rest) = (answer.float(), [answer.whole(), answer.whole(), answer.whole()]);
-        match answered {
-            Ok(f) => assert!(same(f.rss, rss) && [u64::from(f.converged), f.rounds, f.trials] == rest),
-            Err(_) => assert!(rss.to_bits() == KEPT && rest == [KEPT_WHOLE; 3]),
-        }
-        true
+        agrees &= match answered {
+            Ok(f) => same(f.rss, rss) && [u64::from(f.converged), f.rounds, f.trials] == rest,
+            Err(_) => rss.to_bits() == KEPT && rest == [KEPT_WHOLE; 3],
+        };
+        Some(agrees)
     });
     // The types have no place for other numbers of effects or thetas.
     assert!(replayed > 400 && left < 40, "{replayed} {left}");
@@ -226,47 +230,46 @@ fn fits() {
 
 #[test]
 fn criteria() {
-    let (replayed, left) = replay("replay_problem", &["criterion"], |case, answer| {
-        let (Some(c), Some(theta)) = (case_of(case), theta_of(case)) else {
-            return false;
-        };
+    let (replayed, left) = replay(&["criterion"], |case, answer| {
+        let (c, theta) = (case_of(case)?, theta_of(case)?);
         let (max_rounds, reml, n_agq) = (case.whole(), case.whole(), case.whole());
         let likelihood = likelihood_of(reml);
         let [mut values, mut effects] = lent(case);
         let answered = c
             .problem()
             .and_then(|p| p.criterion(&theta, max_rounds, likelihood, n_agq, &mut values, &mut effects));
-        assert_eq!(answered.map_or_else(Refusal::number, |_| 0), answer.whole());
-        assert!(all_same(&values, &answer.floats()) && all_same(&effects, &answer.floats()));
+        let mut agrees = answered.map_or_else(Refusal::number, |_| 0) == answer.whole();
+        agrees &= all_same(&values, &answer.floats());
+        agrees &= all_same(&effects, &answer.floats());
         let rest = [answer.float(), answer.float()];
-        match answered {
-            Ok(found) => assert!(all_same(&[found.criterion, found.sigma2], &rest)),
-            Err(_) => assert!(rest.iter().all(|x| x.to_bits() == KEPT)),
-        }
-        true
+        agrees &= match answered {
+            Ok(found) => all_same(&[found.criterion, found.sigma2], &rest),
+            Err(_) => rest.iter().all(|x| x.to_bits() == KEPT),
+        };
+        Some(agrees)
     });
     assert!(replayed > 350 && left < 40, "{replayed} {left}");
 }
 
 #[test]
 fn searches() {
-    let (replayed, left) = replay("replay_problem", &["search"], |case, answer| {
-        let Some(c) = case_of(case) else { return false };
+    let (replayed, left) = replay(&["search"], |case, answer| {
+        let c = case_of(case)?;
         let (max_rounds, reml, n_agq, max_narrowings) = (case.whole(), case.whole(), case.whole(), case.whole());
         let answered = c
             .problem()
             .and_then(|p| p.search(max_rounds, likelihood_of(reml), n_agq, max_narrowings));
-        assert_eq!(answered.map_or_else(Refusal::number, |_| 0), answer.whole());
+        let mut agrees = answered.map_or_else(Refusal::number, |_| 0) == answer.whole();
         let floats = [answer.float(), answer.float()];
         let counts = [answer.whole(), answer.whole(), answer.whole()];
-        match answered {
+        agrees &= match answered {
             Ok(found) => {
-                assert!(all_same(&[found.theta, found.criterion], &floats));
-                assert_eq!([found.narrowings, u64::from(found.converged), found.fits], counts);
+                all_same(&[found.theta, found.criterion], &floats)
+                    && [found.narrowings, u64::from(found.converged), found.fits] == counts
             }
-            Err(_) => assert!(floats.iter().all(|x| x.to_bits() == KEPT) && counts == [KEPT_WHOLE; 3]),
-        }
-        true
+            Err(_) => floats.iter().all(|x| x.to_bits() == KEPT) && counts == [KEPT_WHOLE; 3],
+        };
+        Some(agrees)
     });
     assert!(replayed > 350 && left < 40, "{replayed} {left}");
 }
