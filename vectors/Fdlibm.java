@@ -1,7 +1,6 @@
 // Answers of fdlibm for exp, ln and sqrt, as answer lines: `exp X = Y` with the bits in hexadecimal and every NaN as `nan`.
-// StrictMath is specified to be fdlibm. No argument depends on the time or the machine. From the root of the repository:
-//
-//     java vectors/Fdlibm.java > crates/replay_math/stdin
+// StrictMath is specified to be fdlibm. No argument depends on the time or the machine. What it prints is where
+// crates/replay/stdin begins (vectors/README.md).
 import java.io.PrintStream;
 import java.util.TreeSet;
 
