@@ -56,19 +56,19 @@ pub fn judge_pair<F: Fn(usize, [[f64; 2]; 2]) -> Option<[[f64; 2]; 2]>>(
 pub fn judge_direction(words: &mut Words<'_>) -> Option<bool> {
     let p = words.value()?;
     let k = words.value()?;
-    let groups = words.value()?;
-    if p > 4 || k > 2 || groups > 32 {
+    let group_count = words.value()?;
+    if p > 4 || k > 2 || group_count > 32 {
         return None;
     }
     let mut normal = BlockNormal::new();
     read_matrices::<16, 4>(words, 1, p, p, &mut normal.fixed)?;
-    read_matrices::<8, 2>(words, groups, p, k, &mut normal.cross)?;
-    read_matrices::<4, 2>(words, groups, k, k, &mut normal.random)?;
+    read_matrices::<8, 2>(words, group_count, p, k, &mut normal.cross)?;
+    read_matrices::<4, 2>(words, group_count, k, k, &mut normal.random)?;
     read_matrices::<4, 4>(words, 1, 1, p, &mut normal.fixed_rhs)?;
-    read_matrices::<2, 2>(words, groups, 1, k, &mut normal.random_rhs)?;
+    read_matrices::<2, 2>(words, group_count, 1, k, &mut normal.random_rhs)?;
     let damping = words.value()?;
-    let n = groups.checked_mul(k)?.checked_add(p)?;
+    let n = group_count.checked_mul(k)?.checked_add(p)?;
     let mut direction = [0.0; LONGEST];
-    let is_found = normal.solve(p, k, groups, damping, direction.get_mut(..n)?);
+    let is_found = normal.solve(p, k, group_count, damping, direction.get_mut(..n)?);
     agrees(words, n, is_found.then_some(direction))
 }

@@ -24,8 +24,8 @@ pub fn judge_problem<J: Fn(&mut Words<'_>, Problem<'_>) -> Option<bool>>(
 {
     let mut doses = [0.0; READINGS];
     let mut grams = [0.0; READINGS];
-    let mut group = [0; READINGS];
-    let mut effects = [0; SHORT];
+    let mut groups = [0; READINGS];
+    let mut places = [0; SHORT];
     let mut starts = [0.0; SHORT];
     let mut lower = [0.0; SHORT];
     let mut upper = [0.0; SHORT];
@@ -35,9 +35,9 @@ pub fn judge_problem<J: Fn(&mut Words<'_>, Problem<'_>) -> Option<bool>>(
         code: words.value()?,
         doses: words.list(&mut doses)?,
         grams: words.list(&mut grams)?,
-        group: words.list(&mut group)?,
-        groups: words.value()?,
-        effects: words.list(&mut effects)?,
+        groups: words.list(&mut groups)?,
+        group_count: words.value()?,
+        places: words.list(&mut places)?,
         starts: words.list(&mut starts)?,
         lower: words.list(&mut lower)?,
         upper: words.list(&mut upper)?,

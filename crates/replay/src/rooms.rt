@@ -6,5 +6,5 @@ pub const READINGS: usize = 520;
 // The effects that a call writes.
 pub const EFFECTS: usize = 80;
 
-// Every other list: curve values, starts, bounds, indices of effects, theta.
+// Every other list: curve values, starts, bounds, places of effects, theta.
 pub const SHORT: usize = 8;
