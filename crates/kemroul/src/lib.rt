@@ -1,10 +1,10 @@
 // The C boundary, include/kemroul.h: each function calls the operation and hands its answer on.
 #![tactic(auto)]
 
-ghost use Rattle.std.specs.Prelude.{◌≡◌, [], ◌∷◌, length, eqb, not};
+ghost use Rattle.std.specs.Prelude.{◌≡◌, [], ◌∷◌, eqb, not};
 ghost use Rattle.curves.specs.Curve.{curve_of};
 ghost use Rattle.quadrature.specs.Orders.{order_or_zero};
-ghost use Rattle.self_start.specs.Start.{fault_of, written_of};
+ghost use Rattle.self_start.specs.Start as Start;
 ghost use Rattle.criterion.specs.Answer as Criterion;
 ghost use Rattle.golden.specs.Search as Search;
 ghost use Rattle.fit.specs.Answer.{call_of};
@@ -88,10 +88,10 @@ pub extern "C" fn kemroul_curve(
     0
 }
 
+#[tactic(auto, unfolding(self_start::specs::Start::told))]
 #[unsafe(no_mangle)]
 pub extern "C" fn kemroul_start(code: u64, doses: &[f64], grams: &[f64], values: &mut [f64]) -> u64
-    ensures number { result ≡ fault_of code (length doses.now) (length grams.now) (length values.old) }
-    ensures written { values.new ≡ written_of code doses.now grams.now values.old }
+    ensures { Start.call_of code doses.now grams.now values.old ≡ record { number = result; values = values.new } }
 {
     let started = self_start(code, doses, grams, values);
     number(started)

@@ -9,7 +9,7 @@ use Rattle.refusal.specs.declared.Refusal.{Refusal}
 use Rattle.refusal.specs.declared.Refusal.TheVariants.{Code, Readings, Groups, Group, Effects, Lengths, Numbers, Bounds, Outputs, Limits}
 use Rattle.curves.specs.MeanFn.{n_params_of}
 use Rattle.fit_refusals.specs.Problem.{Problem, problem_of, at_theta}
-use Rattle.self_start.specs.Start.{fault_of, written_of}
+use Rattle.self_start.specs.Start as Start
 use Rattle.fit.specs.declared.Fitted.{Fitted}
 use Rattle.fit.specs.Answer as Fit
 use Rattle.criterion.specs.declared.profile.Profile.{Profile}
@@ -125,9 +125,9 @@ with_starts r adjusted starts values b =
 
 unfoldable pub self_started : Asked → List Float → List Float → List Float → Refitted
 self_started r starts values b =
-    let n = fault_of r.code (length r.doses) (length r.grams) (length starts) in
-    let l = written_of r.code r.doses r.grams starts in
-    cond (eqb n 0) (with_starts r (is_adjusted r.code l) (adjusted_of r.code l) values b) (refused_at Step.Start n false l values b)
+    let t = Start.call_of r.code r.doses r.grams starts in
+    cond (eqb t.number 0) (with_starts r (is_adjusted r.code t.values) (adjusted_of r.code t.values) values b)
+    (refused_at Step.Start t.number false t.values values b)
 
 unfoldable pub refit_of : Asked → Bool → List Float → List Float → List Float → Refitted
 refit_of r given starts values b = cond given (with_starts r false starts values b) (self_started r starts values b)

@@ -195,7 +195,7 @@ pub fn refit_from(
 }
 
 // The same from the readings' own start values, which are written too.
-#[tactic(auto, unfolding(crate::specs::Refit::refit_of, crate::specs::Refit::self_started))]
+#[tactic(auto, unfolding(crate::specs::Refit::refit_of, crate::specs::Refit::self_started, self_start::specs::Start::told))]
 pub fn refit(
     request: &Request<'_>,
     starts: &mut [f64],

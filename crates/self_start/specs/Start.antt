@@ -107,12 +107,18 @@ fault_of code doses grams values =
     (cond (ltb 512 doses || not (eqb doses grams)) 2
     (cond (eqb values (n_params_of code)) 0 9))
 
--- the number that an answer stands for
-abbrev pub told : Result ⊤ Refusal → ℕ
-told (Ok u) = 0
-told (Err e) = number_of e
+-- a call's number, 0 where it is not refused; and the lent list as it is left
+pub record Told : Type 0 where
+  pub number : ℕ
+  pub values : List Float
 
--- the list of values after a call: on a refusal as it was
-unfoldable pub written_of : ℕ → List Float → List Float → List Float → List Float
-written_of code doses grams values =
-    cond (eqb (fault_of code (length doses) (length grams) (length values)) 0) (start_of code doses grams) values
+-- an answer, and the list as it is left
+unfoldable pub told : Result ⊤ Refusal → List Float → Told
+told (Err e) values = record { number = number_of e; values = values }
+told (Ok u) values = record { number = 0; values = values }
+
+-- a refusal leaves the list as it was
+unfoldable pub call_of : ℕ → List Float → List Float → List Float → Told
+call_of code doses grams values =
+    let n = fault_of code (length doses) (length grams) (length values) in
+    record { number = n; values = cond (eqb n 0) (start_of code doses grams) values }

@@ -10,7 +10,7 @@ use Rattle.curves.specs.laws.Computes.{curve_computes}
 use Rattle.quadrature.specs.Orders.{order_of}
 use Rattle.re_cov.specs.ReCov.{inverse_of, penalty_of}
 use Rattle.re_cov.specs.laws.Computes.{re_cov_computes}
-use Rattle.self_start.specs.Start.{written_of}
+use Rattle.self_start.specs.Start.{call_of}
 use Rattle.self_start.specs.laws.Computes.{start_computes}
 
 -- a question to one definition
@@ -35,7 +35,7 @@ asked (curve code values dose places) = map (λ (i : ℕ). get_or (curve_of code
 asked (order n) = points (order_of n)
 asked (inverse k theta) = flatten (map (take k) (take k (inverse_of k theta)))
 asked (penalty k theta effects) = penalty_of k theta effects ∷ []
-asked (start code doses grams) = written_of code doses grams (replicate (n_params_of code) nan)
+asked (start code doses grams) = (call_of code doses grams (replicate (n_params_of code) nan)).values
 
 -- a question and the document's answer
 unfoldable pub rows : List (Question × List Float)
