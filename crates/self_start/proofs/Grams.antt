@@ -15,7 +15,7 @@ use Rattle.math.specs.laws.Order.{clash'}
 use Rattle.sorting.specs.Pairs.{Pair}
 use Rattle.sorting.specs.Sort.{insert, insert_all, sort_of, Keyed, Sortable}
 use Rattle.sorting.specs.laws.Sort.{insert_past, insert_here, insert_none}
-use Rattle.self_start.specs.Points.{swapped, numbered, finite_pairs, near_of, mean_of, run_of, averaged_of}
+use Rattle.self_start.specs.Points.{swapped, numbered, finite_pairs, near_dose, mean_of_run, points_of_run, averaged_of}
 
 -- every pair is finite
 unfoldable pub Finite : List Pair → Type 0
@@ -66,24 +66,24 @@ finite_sort (p ∷ ps) f = finite_insert p (sort_of ps) f.0 (finite_sort ps f.1)
 
 -- ---- means
 
-mean_number : (s : Float) (n : ℕ) → is_nan s ≡ false → 1 ≤ n → n ≤ 512 → is_nan (mean_of s n) ≡ false
-unfolding mean_of of_int
+mean_number : (s : Float) (n : ℕ) → is_nan s ≡ false → 1 ≤ n → n ≤ 512 → is_nan (mean_of_run s n) ≡ false
+unfolding mean_of_run of_int
 mean_number s n p a b =
     let w : n ≤ 2 ^ 53 = omega arith in
     div_number s (round binary64 false n 1) p (positive_of_value (round binary64 false n 1) n 1 (round_whole binary64 false n w) a)
 
-run_numbered : (xval s : Float) (n : ℕ) (l : List Pair) → is_nan s ≡ false → 1 ≤ n → n + length l ≤ 512 → Finite l → numbered (run_of xval s n l) ≡ true
-unfolding run_of Finite
+run_numbered : (xval s : Float) (n : ℕ) (l : List Pair) → is_nan s ≡ false → 1 ≤ n → n + length l ≤ 512 → Finite l → numbered (points_of_run xval s n l) ≡ true
+unfolding points_of_run Finite
 run_numbered xval s n [] p a b f = rw (mean_number s n p a (omega (arith, b)))
 run_numbered xval s n (q ∷ qs) p a b f =
     let g = gram_finite q f.0 in
     by_test
     (run_numbered xval (add s q.1) (n + 1) qs (add_number s q.1 p g) (omega arith) (omega (arith, b)) f.1)
     (run_numbered q.0 q.1 1 qs (finite_number q.1 g) (omega arith) (omega (arith, b)) f.1)
-    (near_of q.0 xval)
+    (near_dose q.0 xval)
   where
-    by_test : numbered (run_of xval (add s q.1) (n + 1) qs) ≡ true → numbered (run_of q.0 q.1 1 qs) ≡ true → (t : Bool)
-        → numbered (cond t (run_of xval (add s q.1) (n + 1) qs) ((xval, mean_of s n) ∷ run_of q.0 q.1 1 qs)) ≡ true
+    by_test : numbered (points_of_run xval (add s q.1) (n + 1) qs) ≡ true → numbered (points_of_run q.0 q.1 1 qs) ≡ true → (t : Bool)
+        → numbered (cond t (points_of_run xval (add s q.1) (n + 1) qs) ((xval, mean_of_run s n) ∷ points_of_run q.0 q.1 1 qs)) ≡ true
     by_test near far true = near
     by_test near far false = rw (mean_number s n p a (omega (arith, b))) far
 

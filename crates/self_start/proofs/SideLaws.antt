@@ -12,7 +12,7 @@ use Rattle.math.specs.laws.Order.{clash, above_num, not_above, lt_is_le, not_bel
 use Rattle.sorting.specs.Pairs.{Pair}
 use Rattle.sorting.specs.Sort.{sort_of, Keyed, NoneBelow, Sorted}
 use Rattle.self_start.specs.Points.{between_of, window_of, approx_of}
-use Rattle.self_start.specs.Sides.{no_sides, ends_of, approx_sides}
+use Rattle.self_start.specs.Sides.{no_sides, approx_ends, approx_sides}
 use Rattle.self_start.specs.laws.Sides.{sides_of}
 use Rattle.self_start.proofs.Ends.{last_of, last_in, ends_in, last_append, last_at}
 use Rattle.self_start.proofs.Cut.{describe, Below, below_last, cut}
@@ -80,7 +80,7 @@ module _ (t other : Float) where
           sym (ap (λ w. cond (le (last_of p r).0 t) (last_of p r).1 w) (window_nan p r (first_or_nan p n h e)) ∙ cond_same (le (last_of p r).0 t) (last_of p r).1)
 
   parts : (l h : List Pair) → Below t l → NoneBelow t h → Sorted h → approx_sides (describe l h) t other ≡ approx_of (l ++ h) t other
-  unfolding ends_of last_in ends_in last_of Below NoneBelow Sorted
+  unfolding approx_ends last_in ends_in last_of Below NoneBelow Sorted
   parts [] [] b n s = sym approx_none
   parts [] (p ∷ []) b n s = cond_same (le t p.0) p.1 ∙ sym (approx_one p)
   parts [] (p ∷ (q ∷ r)) b n s = highs_alone p (q ∷ r) s.0 n.0 ∙ sym (approx_many p (q ∷ r) (omega arith))

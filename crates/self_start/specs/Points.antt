@@ -25,24 +25,24 @@ abbrev pub finite_pairs : List Pair → List Pair
 finite_pairs = filter (λ p. is_finite p.0 && is_finite p.1)
 
 -- its inner test: the dose is no further from its run's first, `xval`, than 1e-12 times the larger of that one's size and 1
-unfoldable pub near_of : Float → Float → Bool
-near_of dose xval = le (abs_of (sub dose xval)) (mul (bits 0x3d71_9799_812d_ea11) (max_of (abs_of xval) one))
+unfoldable pub near_dose : Float → Float → Bool
+near_dose dose xval = le (abs_of (sub dose xval)) (mul (bits 0x3d71_9799_812d_ea11) (max_of (abs_of xval) one))
 
-unfoldable pub mean_of : Float → ℕ → Float
-mean_of sum count = div sum (of_int binary64 (pos count))
+unfoldable pub mean_of_run : Float → ℕ → Float
+mean_of_run sum count = div sum (of_int binary64 (pos count))
 
 -- its loops: a run with this first dose, this sum and this count so far, and the pairs after it
-unfoldable pub run_of : Float → Float → ℕ → List Pair → List Pair
-run_of xval sum count [] = (xval, mean_of sum count) ∷ []
-run_of xval sum count (p ∷ ps) =
-    cond (near_of p.0 xval)
-    (run_of xval (add sum p.1) (count + 1) ps)
-    ((xval, mean_of sum count) ∷ run_of p.0 p.1 1 ps)
+unfoldable pub points_of_run : Float → Float → ℕ → List Pair → List Pair
+points_of_run xval sum count [] = (xval, mean_of_run sum count) ∷ []
+points_of_run xval sum count (p ∷ ps) =
+    cond (near_dose p.0 xval)
+    (points_of_run xval (add sum p.1) (count + 1) ps)
+    ((xval, mean_of_run sum count) ∷ points_of_run p.0 p.1 1 ps)
 
 -- each run of near doses is one point: its first dose and the mean of its grams
 unfoldable pub averaged_of : List Pair → List Pair
 averaged_of [] = []
-averaged_of (p ∷ ps) = run_of p.0 p.1 1 ps
+averaged_of (p ∷ ps) = points_of_run p.0 p.1 1 ps
 
 unfoldable pub sorted_xy_data : List Pair → List Pair
 sorted_xy_data readings = averaged_of (sort_of (finite_pairs readings))

@@ -22,11 +22,11 @@ unfoldable pub put_of : Float → Pair → Sides → Sides
 put_of t p s = cond (lt p.0 t) (record { below = Some (put_low s.below p); others = s.others }) (record { below = s.below; others = Some (put_high s.others p) })
 
 -- between the sides, flat beyond the points
-unfoldable pub ends_of : Option Pair → Option (Pair × Pair) → Float → Float → Float
-ends_of None None xout other = other
-ends_of (Some low) None xout other = low.1
-ends_of None (Some high) xout other = cond (le xout high.0.0) high.0.1 high.1.1
-ends_of (Some low) (Some high) xout other = cond (le high.1.0 xout) high.1.1 (between_of low high.0 xout)
+unfoldable pub approx_ends : Option Pair → Option (Pair × Pair) → Float → Float → Float
+approx_ends None None xout other = other
+approx_ends (Some low) None xout other = low.1
+approx_ends None (Some high) xout other = cond (le xout high.0.0) high.0.1 high.1.1
+approx_ends (Some low) (Some high) xout other = cond (le high.1.0 xout) high.1.1 (between_of low high.0 xout)
 
 abbrev pub approx_sides : Sides → Float → Float → Float
-approx_sides s xout other = ends_of s.below s.others xout other
+approx_sides s xout other = approx_ends s.below s.others xout other

@@ -34,14 +34,14 @@ abbrev pub sslogis_else : List Float
 sslogis_else = bits 0x4069_0000_0000_0000 ∷ bits 0x4086_a800_0000_0000 ∷ bits 0x4075_e000_0000_0000 ∷ []
 
 -- 1 where scal is not finite, or its size is below 1e-8
-unfoldable pub scal_of : Float → Float
-scal_of scal = cond (is_finite scal) (cond (lt (abs_of scal) tiny) one scal) one
+unfoldable pub scal_or_one : Float → Float
+scal_or_one scal = cond (is_finite scal) (cond (lt (abs_of scal) tiny) one scal) one
 
 -- the dose at half of the height, and the dose at a quarter less that: for rising points scal is negative
 unfoldable pub sslogis_from : List Pair → Float → List Float
 sslogis_from ps asym =
     let xmid = approx_x_from_y ps (div asym two) (middle_dose ps) in
-    asym ∷ xmid ∷ scal_of (sub (approx_x_from_y ps (div asym (bits 0x4010_0000_0000_0000)) xmid) xmid) ∷ []
+    asym ∷ xmid ∷ scal_or_one (sub (approx_x_from_y ps (div asym (bits 0x4010_0000_0000_0000)) xmid) xmid) ∷ []
 
 unfoldable pub sslogis_start : List Pair → List Float
 sslogis_start ps = cond (ltb (length ps) 3 || (not (is_finite (most ps)) || le (most ps) zero)) sslogis_else (sslogis_from ps (most ps))
@@ -92,17 +92,17 @@ ssfpl_start ps = cond (ltb (length ps) 4 || not (apart_of (least ps) (most ps)))
 
 -- ---- `self_start`, by code
 
-unfoldable pub from_points : ℕ → List Pair → List Float
-from_points code ps = cond (eqb code 1) (sslogis_start ps) (cond (eqb code 2) (ssasymp_start ps) (cond (eqb code 3) (ssmicmen_start ps) (ssfpl_start ps)))
+unfoldable pub start_from_points : ℕ → List Pair → List Float
+start_from_points code ps = cond (eqb code 1) (sslogis_start ps) (cond (eqb code 2) (ssasymp_start ps) (cond (eqb code 3) (ssmicmen_start ps) (ssfpl_start ps)))
 
-unfoldable pub start_of : ℕ → List Float → List Float → List Float
-start_of code doses grams = from_points code (sorted_xy_data (zip doses grams))
+unfoldable pub self_start_of : ℕ → List Float → List Float → List Float
+self_start_of code doses grams = start_from_points code (sorted_xy_data (zip doses grams))
 
 -- ---- the public operation
 
 -- the number of the first fault, and 0 where there is none: 1 no such curve; 2 over 512 readings or unequal lists; 9 a list of the wrong length for the values
-unfoldable pub fault_of : ℕ → ℕ → ℕ → ℕ → ℕ
-fault_of code doses grams values =
+unfoldable pub start_fault : ℕ → ℕ → ℕ → ℕ → ℕ
+start_fault code doses grams values =
     cond (no_curve code) 1
     (cond (ltb 512 doses || not (eqb doses grams)) 2
     (cond (eqb values (n_params_of code)) 0 9))
@@ -120,5 +120,5 @@ told (Ok u) values = record { number = 0; values = values }
 -- a refusal leaves the list as it was
 unfoldable pub call_of : ℕ → List Float → List Float → List Float → Told
 call_of code doses grams values =
-    let n = fault_of code (length doses) (length grams) (length values) in
-    record { number = n; values = cond (eqb n 0) (start_of code doses grams) values }
+    let n = start_fault code (length doses) (length grams) (length values) in
+    record { number = n; values = cond (eqb n 0) (self_start_of code doses grams) values }

@@ -71,7 +71,7 @@ fn put(s: Sides, point: (f64, f64), y_target: f64) -> Sides
 }
 
 // Between the sides, flat beyond the points; `other` where there is none.
-#[tactic(auto, unfolding(crate::specs::Sides::ends_of))]
+#[tactic(auto, unfolding(crate::specs::Sides::approx_ends))]
 fn approx(s: Sides, xout: f64, other: f64) -> f64
     ensures { result ≡ approx_sides s xout other }
 {
