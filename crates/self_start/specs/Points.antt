@@ -3,9 +3,10 @@ use Rattle.std.specs.Prelude.{Bool, true, false, not, cond, ◌&&◌, List, [], 
 use Rattle.std.specs.List.{filter, fold, list_all}
 use Rattle.std.specs.Float.{inf, binary64}
 use Rattle.std.specs.Float.Ieee.{lt, le, of_int, is_nan}
-use Rattle.math.specs.Basic.{add, sub, mul, div, bits, one, abs_of, max_of, min_of, is_finite}
+use Rattle.math.specs.Basic.{add, sub, mul, div, one, abs_of, max_of, min_of, is_finite}
 use Rattle.sorting.specs.Pairs.{Pair, pair_at}
 use Rattle.sorting.specs.Sort.{sort_of}
+use Rattle.self_start.specs.Constants.{1e-12, 1e-15}
 
 -- the second components; each pair the other way round
 abbrev pub seconds : List Pair → List Float
@@ -26,7 +27,7 @@ finite_pairs = filter (λ p. is_finite p.0 && is_finite p.1)
 
 -- its inner test: the dose is no further from its run's first, `xval`, than 1e-12 times the larger of that one's size and 1
 unfoldable pub near_dose : Float → Float → Bool
-near_dose dose xval = le (abs_of (sub dose xval)) (mul (bits 0x3d71_9799_812d_ea11) (max_of (abs_of xval) one))
+near_dose dose xval = le (abs_of (sub dose xval)) (mul 1e-12 (max_of (abs_of xval) one))
 
 unfoldable pub mean_of_run : Float → ℕ → Float
 mean_of_run sum count = div sum (of_int binary64 (pos count))
@@ -52,7 +53,7 @@ sorted_xy_data readings = averaged_of (sort_of (finite_pairs readings))
 -- on the line from p to q; p's where they lie closer than 1e-15
 unfoldable pub between_of : Pair → Pair → Float → Float
 between_of p q xout =
-    cond (lt (abs_of (sub q.0 p.0)) (bits 0x3cd2_03af_9ee7_5616))
+    cond (lt (abs_of (sub q.0 p.0)) 1e-15)
     p.1
     (add p.1 (mul (div (sub xout p.0) (sub q.0 p.0)) (sub q.1 p.1)))
 

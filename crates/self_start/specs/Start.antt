@@ -2,17 +2,15 @@
 use Rattle.std.specs.Prelude.{Bool, not, cond, ◌&&◌, ◌||◌, ⊤, Result, Ok, Err, List, [], ◌∷◌, ℕ, ◌/◌, ltb, eqb, length, Float}
 use Rattle.std.specs.List.{zip}
 use Rattle.std.specs.Float.Ieee.{lt, le}
-use Rattle.math.specs.Basic.{add, sub, mul, div, bits, zero, half, one, two, abs_of, max_of, is_finite}
+use Rattle.math.specs.Basic.{add, sub, mul, div, zero, half, one, two, abs_of, max_of, is_finite}
 use Rattle.math.specs.Ln.{ln_of}
+use Rattle.math.specs.Rationals.{1e-8}
 use Rattle.refusal.specs.declared.Refusal.{Refusal}
 use Rattle.refusal.specs.Refusal.{number_of}
 use Rattle.sorting.specs.Pairs.{Pair, pair_at}
 use Rattle.curves.specs.MeanFn.{no_curve, n_params_of}
+use Rattle.self_start.specs.Constants.{1e-3, 1e-6, quarter, two_fifths, four, five, ten, twenty, fifty, ninety, two_hundred, three_fifty, seven_twenty_five}
 use Rattle.self_start.specs.Points.{seconds, sorted_xy_data, approx_x_from_y, most_of, least_of}
-
--- 1e-8
-abbrev pub tiny : Float
-tiny = bits 0x3e45_798e_e230_8c3a
 
 -- the grams of the points, and the doses of the first and of the middle one
 abbrev pub most : List Pair → Float
@@ -29,19 +27,18 @@ middle_dose ps = (pair_at ps (length ps / 2)).0
 
 -- ---- `self_start_sslogis`
 
--- 200, 725, 350
 abbrev pub sslogis_else : List Float
-sslogis_else = bits 0x4069_0000_0000_0000 ∷ bits 0x4086_a800_0000_0000 ∷ bits 0x4075_e000_0000_0000 ∷ []
+sslogis_else = two_hundred ∷ seven_twenty_five ∷ three_fifty ∷ []
 
 -- 1 where scal is not finite, or its size is below 1e-8
 unfoldable pub scal_or_one : Float → Float
-scal_or_one scal = cond (is_finite scal) (cond (lt (abs_of scal) tiny) one scal) one
+scal_or_one scal = cond (is_finite scal) (cond (lt (abs_of scal) 1e-8) one scal) one
 
 -- the dose at half of the height, and the dose at a quarter less that: for rising points scal is negative
 unfoldable pub sslogis_from : List Pair → Float → List Float
 sslogis_from ps asym =
     let xmid = approx_x_from_y ps (div asym two) (middle_dose ps) in
-    asym ∷ xmid ∷ scal_or_one (sub (approx_x_from_y ps (div asym (bits 0x4010_0000_0000_0000)) xmid) xmid) ∷ []
+    asym ∷ xmid ∷ scal_or_one (sub (approx_x_from_y ps (div asym four) xmid) xmid) ∷ []
 
 unfoldable pub sslogis_start : List Pair → List Float
 sslogis_start ps = cond (ltb (length ps) 3 || (not (is_finite (most ps)) || le (most ps) zero)) sslogis_else (sslogis_from ps (most ps))
@@ -50,13 +47,13 @@ sslogis_start ps = cond (ltb (length ps) 3 || (not (is_finite (most ps)) || le (
 
 -- ln 2 / xmid; 0 where that is not finite, or xmid's size is below 1e-8
 unfoldable pub lrc_of : Float → Float
-lrc_of xmid = let lrc = div (ln_of two) xmid in cond (is_finite lrc) (cond (lt (abs_of xmid) tiny) zero lrc) zero
+lrc_of xmid = let lrc = div (ln_of two) xmid in cond (is_finite lrc) (cond (lt (abs_of xmid) 1e-8) zero lrc) zero
 
 -- from none: 90, 20, ln 0.4
 unfoldable pub ssasymp_start : List Pair → List Float
 ssasymp_start ps =
     cond (eqb (length ps) 0)
-    (bits 0x4056_8000_0000_0000 ∷ bits 0x4034_0000_0000_0000 ∷ ln_of (bits 0x3fd9_9999_9999_999a) ∷ [])
+    (ninety ∷ twenty ∷ ln_of two_fifths ∷ [])
     (most ps ∷ least ps ∷ lrc_of (approx_x_from_y ps (sub (most ps) (div (sub (most ps) (least ps)) two)) (first_dose ps)) ∷ [])
 
 -- ---- `self_start_ssmicmen`; from none: 10, 1
@@ -64,28 +61,27 @@ ssasymp_start ps =
 unfoldable pub ssmicmen_start : List Pair → List Float
 ssmicmen_start ps =
     cond (eqb (length ps) 0)
-    (bits 0x4024_0000_0000_0000 ∷ one ∷ [])
-    (max_of (most ps) one ∷ max_of (approx_x_from_y ps (div (most ps) two) (first_dose ps)) (bits 0x3eb0_c6f7_a0b5_ed8d) ∷ [])
+    (ten ∷ one ∷ [])
+    (max_of (most ps) one ∷ max_of (approx_x_from_y ps (div (most ps) two) (first_dose ps)) 1e-6 ∷ [])
 
 -- ---- `self_start_ssfpl`
 
--- 10, 50, 5, 2
 abbrev pub ssfpl_else : List Float
-ssfpl_else = bits 0x4024_0000_0000_0000 ∷ bits 0x4049_0000_0000_0000 ∷ bits 0x4014_0000_0000_0000 ∷ two ∷ []
+ssfpl_else = ten ∷ fifty ∷ five ∷ two ∷ []
 
 -- both are finite, and 1e-8 or more apart
 unfoldable pub apart_of : Float → Float → Bool
-apart_of a b = is_finite a && (is_finite b && not (lt (abs_of (sub b a)) tiny))
+apart_of a b = is_finite a && (is_finite b && not (lt (abs_of (sub b a)) 1e-8))
 
 -- the size of xmid - x_q, at least 1e-3; 1 where that is not finite
 unfoldable pub width_of : Float → Float → Float
-width_of xmid xq = let scal = max_of (abs_of (sub xmid xq)) (bits 0x3f50_624d_d2f1_a9fc) in cond (is_finite scal) scal one
+width_of xmid xq = let scal = max_of (abs_of (sub xmid xq)) 1e-3 in cond (is_finite scal) scal one
 
 -- the doses at a half and at a quarter of the way from a to b
 unfoldable pub ssfpl_from : List Pair → Float → Float → List Float
 ssfpl_from ps a b =
     let xmid = approx_x_from_y ps (mul half (add a b)) (middle_dose ps) in
-    a ∷ b ∷ xmid ∷ width_of xmid (approx_x_from_y ps (add a (mul (bits 0x3fd0_0000_0000_0000) (sub b a))) xmid) ∷ []
+    a ∷ b ∷ xmid ∷ width_of xmid (approx_x_from_y ps (add a (mul quarter (sub b a))) xmid) ∷ []
 
 unfoldable pub ssfpl_start : List Pair → List Float
 ssfpl_start ps = cond (ltb (length ps) 4 || not (apart_of (least ps) (most ps))) ssfpl_else (ssfpl_from ps (least ps) (most ps))
