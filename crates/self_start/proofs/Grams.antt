@@ -48,7 +48,7 @@ finite_few (p ∷ ps) = by_test (finite_few ps) (is_finite p.0 && is_finite p.1)
     by_test h false = omega arith
 
 pub readings_sortable : (l : List Pair) → length l ≤ 512 → Sortable (finite_pairs l)
-readings_sortable l few = record { few = omega (arith, finite_few l, few); keyed = finite_keyed (finite_pairs l) (finite_pairs_lem l) }
+readings_sortable l few = record { within_longest = omega (arith, finite_few l, few); keyed = finite_keyed (finite_pairs l) (finite_pairs_lem l) }
 
 finite_insert : (p : Pair) (l : List Pair) → (is_finite p.0 && is_finite p.1) ≡ true → Finite l → Finite (insert p l)
 unfolding Finite
