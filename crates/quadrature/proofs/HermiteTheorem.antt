@@ -11,17 +11,17 @@ use lib.Ieee.{nan, fin, up, down, of_bits, round, neg}
 use lib.Ieee.Exact.{HasValue}
 use Rattle.std.specs.Prelude.{Some}
 use Rattle.std.specs.List.{list_all}
-use Rattle.quadrature.specs.Orders.{orders, one_of, order_of}
-use Rattle.quadrature.specs.Rules.{z3, z5, z7, z9, z11, w3, w5, w7, w9, w11, nodes_of, weights_of}
-use Rattle.quadrature.specs.Hermite.{over, value_of, He, near_root, apart, sum_of, sum_near_one, RightRule}
+use Rattle.quadrature.specs.Orders.{orders, is_order_in, gh_order_of}
+use Rattle.quadrature.specs.Rules.{z3, z5, z7, z9, z11, w3, w5, w7, w9, w11, gh_nodes, gh_weights}
+use Rattle.quadrature.specs.Hermite.{ratio, value_of, He, near_root, apart, sum_of_values, sum_near_one, RightRule}
 use Rattle.quadrature.proofs.OrderLaws.{order_known}
 
 -- ---- the test
 unfoldable tested : ℕ → Bool
-tested n = (eqb (length (nodes_of n)) n && (list_all (near_root n) (nodes_of n) && apart (nodes_of n))) && (eqb (length (weights_of n)) n && sum_near_one (weights_of n))
+tested n = (eqb (length (gh_nodes n)) n && (list_all (near_root n) (gh_nodes n) && apart (gh_nodes n))) && (eqb (length (gh_weights n)) n && sum_near_one (gh_weights n))
 
 all_tested : T (list_all tested orders)
-unfolding z3 z5 z7 z9 z11 w3 w5 w7 w9 w11 nodes_of weights_of value_of He near_root apart sum_of sum_near_one tested round of_bits neg
+unfolding z3 z5 z7 z9 z11 w3 w5 w7 w9 w11 gh_nodes gh_weights value_of He near_root apart sum_of_values sum_near_one tested round of_bits neg
 all_tested = tt
 
 -- ---- a conjunction's parts, and a test of all at one
@@ -36,37 +36,37 @@ module _ {A : Type 0} (f : A → Bool) (d : A) where
   all_at (x ∷ xs) t (suc i) h = all_at xs (both (f x) (list_all f xs) t).1 i (le_of_suc-le-suc h)
 
 module _ (f : ℕ → Bool) (n : ℕ) where
-  at_head : (b : Bool) (m : ℕ) (ms : List ℕ) → eqb n m ≡ b → T (b || one_of n ms) → T (f m && list_all f ms) → (T (one_of n ms) → T (list_all f ms) → T (f n)) → T (f n)
+  at_head : (b : Bool) (m : ℕ) (ms : List ℕ) → eqb n m ≡ b → T (b || is_order_in n ms) → T (f m && list_all f ms) → (T (is_order_in n ms) → T (list_all f ms) → T (f n)) → T (f n)
   at_head true m ms e h t ih = subst (λ (k : ℕ). T (f k)) (sym (eqb→eq n m (subst T (sym e) tt))) (both (f m) (list_all f ms) t).0
   at_head false m ms e h t ih = ih h (both (f m) (list_all f ms) t).1
 
-  at_one : (ms : List ℕ) → T (one_of n ms) → T (list_all f ms) → T (f n)
-  unfolding one_of
+  at_one : (ms : List ℕ) → T (is_order_in n ms) → T (list_all f ms) → T (f n)
+  unfolding is_order_in
   at_one [] h t = absurd h
   at_one (m ∷ ms) h t = at_head (eqb n m) m ms refl h t (at_one ms)
 
 -- ---- what it says of each order and each place
-pub right_rule : (n : ℕ) → T (one_of n orders) → RightRule n
+pub right_rule : (n : ℕ) → T (is_order_in n orders) → RightRule n
 unfolding tested
 right_rule n known =
-    let t = both (eqb (length (nodes_of n)) n && (list_all (near_root n) (nodes_of n) && apart (nodes_of n))) _ (at_one tested n orders known all_tested) in
-    let z = both (eqb (length (nodes_of n)) n) _ t.0 in
-    let r = both (list_all (near_root n) (nodes_of n)) _ z.1 in
-    let w = both (eqb (length (weights_of n)) n) _ t.1 in
+    let t = both (eqb (length (gh_nodes n)) n && (list_all (near_root n) (gh_nodes n) && apart (gh_nodes n))) _ (at_one tested n orders known all_tested) in
+    let z = both (eqb (length (gh_nodes n)) n) _ t.0 in
+    let r = both (list_all (near_root n) (gh_nodes n)) _ z.1 in
+    let w = both (eqb (length (gh_weights n)) n) _ t.1 in
     let e = eqb→eq _ _ z.0 in
     record {
       nodes_count = e;
-      near_root_lem = λ i h. all_at (near_root n) nan (nodes_of n) r.0 i (rw e h);
+      near_root_lem = λ i h. all_at (near_root n) nan (gh_nodes n) r.0 i (rw e h);
       nodes_apart = r.1;
       weights_count = eqb→eq _ _ w.0;
       weights_near_one = w.1;
     }
 
 -- so whatever is asked for, the rule that is taken is right
-pub taken_rule_right : (asked n : ℕ) → order_of asked ≡ Some n → RightRule n
+pub taken_rule_right : (asked n : ℕ) → gh_order_of asked ≡ Some n → RightRule n
 taken_rule_right asked n e = right_rule n (order_known asked n e)
 
 -- ---- the fraction of a float is its own value, by IEEE's sign, size and exponent
-pub value_right : (s : Bool) (m : ℕ) (e : ℤ) → (value_of (fin s m e) ≡ over (cond s (neg_ℤ (pos (m * up e))) (pos (m * up e))) (down e)) × HasValue (fin s m e) s (m * up e) (down e)
+pub value_right : (s : Bool) (m : ℕ) (e : ℤ) → (value_of (fin s m e) ≡ ratio (cond s (neg_ℤ (pos (m * up e))) (pos (m * up e))) (down e)) × HasValue (fin s m e) s (m * up e) (down e)
 unfolding value_of
 value_right s m e = (refl, (refl, refl))

@@ -53,15 +53,15 @@ w11 = weights_from (3694083694083694 e- 16) (24224029987396992 e- 17 ∷ 6613874
 abbrev pub of_order : ℕ → List Float → List Float → List Float → List Float → List Float → List Float
 of_order n l3 l5 l7 l9 l11 = cond (eqb n 3) l3 (cond (eqb n 5) l5 (cond (eqb n 7) l7 (cond (eqb n 9) l9 (cond (eqb n 11) l11 []))))
 
-unfoldable pub nodes_of : ℕ → List Float
-nodes_of n = of_order n z3 z5 z7 z9 z11
+unfoldable pub gh_nodes : ℕ → List Float
+gh_nodes n = of_order n z3 z5 z7 z9 z11
 
-unfoldable pub weights_of : ℕ → List Float
-weights_of n = of_order n w3 w5 w7 w9 w11
+unfoldable pub gh_weights : ℕ → List Float
+gh_weights n = of_order n w3 w5 w7 w9 w11
 
 -- a node and its weight at place i; NaNs where there is none
 abbrev pub point_at : List Float → List Float → ℕ → Point
 point_at zs ws i = record { z = get_or zs i nan; w = get_or ws i nan }
 
 abbrev pub gh_rule : ℕ → ℕ → Point
-gh_rule n i = point_at (nodes_of n) (weights_of n) i
+gh_rule n i = point_at (gh_nodes n) (gh_weights n) i

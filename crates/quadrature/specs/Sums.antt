@@ -10,11 +10,11 @@ abbrev pub maximum_of : List Float → Float
 maximum_of xs = fold max_of (inf true) xs
 
 -- xs.iter().map(|&x| (x - m).exp()).sum(): from 0, in the list's order
-abbrev pub add_exp : Float → Float → Float → Float
-add_exp m s x = add s (exp_of (sub x m))
+abbrev pub add_shifted_exp : Float → Float → Float → Float
+add_shifted_exp m s x = add s (exp_of (sub x m))
 
 abbrev pub sum_exp_of : Float → List Float → Float
-sum_exp_of m xs = fold (add_exp m) zero xs
+sum_exp_of m xs = fold (add_shifted_exp m) zero xs
 
 -- -infinity of no terms, and where m is not finite
 unfoldable pub log_sum_exp : List Float → Float

@@ -1,6 +1,6 @@
 // Which rule is taken for the number of points asked for.
 ghost use Rattle.std.specs.Prelude.{◌≡◌, ◌^◌, ◌&&◌, leb, find, reverse};
-ghost use Rattle.quadrature.specs.Orders.{order_of, order_or_zero, max_points, product_of};
+ghost use Rattle.quadrature.specs.Orders.{gh_order_of, order_or_zero, max_points, product_of};
 
 // The numbers of points that have a rule.
 const SUPPORTED: [usize; 5] = [3, 5, 7, 9, 11];
@@ -12,9 +12,9 @@ fn first_not_below(n: u64) -> Option<usize>
 }
 
 // The first of 3, 5, 7, 9 and 11 that is not below n_agq; 11 above 11.
-#[tactic(auto, unfolding(crate::specs::Orders::order_of))]
+#[tactic(auto, unfolding(crate::specs::Orders::gh_order_of))]
 pub fn resolve_gh_order(n_agq: u64) -> Option<usize>
-    ensures { result ≡ order_of n_agq }
+    ensures { result ≡ gh_order_of n_agq }
 {
     if n_agq < 2 {
         return None;

@@ -1,7 +1,7 @@
 // The rules of 3, 5, 7, 9 and 11 points for the weight exp(-z^2/2).
 ghost use Rattle.std.specs.Prelude.{◌≡◌};
 ghost use Rattle.std.specs.List.{zip};
-ghost use Rattle.quadrature.specs.Rules.{nodes_of, weights_of, gh_rule};
+ghost use Rattle.quadrature.specs.Rules.{gh_nodes, gh_weights, gh_rule};
 
 // Each node with its weight: z = sqrt(2) * x, with x a root for the weight exp(-x^2); the weights sum to 1. Pairs and no `Point`s:
 // 35 times `Point { z: .., w: .. }` would be no plainer to read as a table.
@@ -64,7 +64,7 @@ pub struct Point {
 
 // The points of the rule of an order; none where there is no such rule.
 fn rule(order: usize) -> &'static [(f64, f64)]
-    ensures { result.now ≡ zip (nodes_of order) (weights_of order) }
+    ensures { result.now ≡ zip (gh_nodes order) (gh_weights order) }
 {
     match order {
         3 => &GH_3,

@@ -11,7 +11,7 @@ use Rattle.curves.specs.MeanFn.{n_params_of}
 use Rattle.curves.specs.laws.Computes.{curve_computes}
 use Rattle.re_cov.specs.laws.Computes.{re_cov_computes}
 use Rattle.block_solve.specs.laws.Computes.{direction_computes}
-use Rattle.quadrature.specs.Orders.{order_of, capped, capped_order}
+use Rattle.quadrature.specs.Orders.{gh_order_of, order_within_cap, capped_order}
 use Rattle.quadrature.specs.Rules as Rules
 use Rattle.quadrature.specs.Sums.{log_sum_exp}
 use Rattle.fit_refusals.specs.Problem.{Problem, problem_of, is_scalar}
@@ -79,5 +79,5 @@ rows =
     ∷ []
 
 pub rows_hold : T (every holds rows)
-unfolding rows Ieee.round Ieee.le Ieee.of_int to_bits curve_computes re_cov_computes direction_computes order_of capped capped_order Rules.nodes_of Rules.weights_of Rules.z3 Rules.w3 log_sum_exp state_computes random_gradients rss_of penalty_sum rounds trace_of fit_of own_of gradients_at group_squares add_by block_by tries logs_of group_factor logdet_of scaling_of node_of effects_at_node term_of terms_of add_group group_at groups_of agq_of is_scalar df_of sigma2_of laplace_of det_of profile_from profile_of
+unfolding rows Ieee.round Ieee.le Ieee.of_int to_bits curve_computes re_cov_computes direction_computes gh_order_of order_within_cap capped_order Rules.gh_nodes Rules.gh_weights Rules.z3 Rules.w3 log_sum_exp state_computes random_gradients rss_of penalty_sum rounds trace_of fit_of own_of gradients_at group_squares add_by block_by tries logs_of group_factor logdet_of scaling_of node_of effects_at_node term_of terms_of add_group group_at groups_of agq_of is_scalar df_of sigma2_of laplace_of det_of profile_from profile_of
 rows_hold = tt

@@ -7,7 +7,7 @@ use Rattle.math.specs.Rationals.{over, minus, num}
 use Rattle.curves.specs.MeanFn.{n_params_of}
 use Rattle.curves.specs.Curve.{curve_of}
 use Rattle.curves.specs.laws.Computes.{curve_computes}
-use Rattle.quadrature.specs.Orders.{order_of}
+use Rattle.quadrature.specs.Orders.{gh_order_of}
 use Rattle.re_cov.specs.ReCov.{inverse_of, penalty_of}
 use Rattle.re_cov.specs.laws.Computes.{re_cov_computes}
 use Rattle.self_start.specs.Start.{call_of}
@@ -32,7 +32,7 @@ points (Some n) = num n ∷ []
 -- what the definition gives; a curve that refuses gives NaNs, and a start that refuses leaves the NaNs that it is lent
 unfoldable pub asked : Question → List Float
 asked (curve code values dose places) = map (λ (i : ℕ). get_or (curve_of code values dose).1 i nan) places
-asked (order n) = points (order_of n)
+asked (order n) = points (gh_order_of n)
 asked (inverse k theta) = flatten (map (take k) (take k (inverse_of k theta)))
 asked (penalty k theta effects) = penalty_of k theta effects ∷ []
 asked (start code doses grams) = (call_of code doses grams (replicate (n_params_of code) nan)).values
@@ -73,5 +73,5 @@ rows =
     ∷ []
 
 pub rows_hold : map (λ (r : Question × List Float). asked r.0) rows ≡ map (λ (r : Question × List Float). r.1) rows
-unfolding curve_computes order_of re_cov_computes start_computes round flatten points asked rows
+unfolding curve_computes gh_order_of re_cov_computes start_computes round flatten points asked rows
 rows_hold = refl
