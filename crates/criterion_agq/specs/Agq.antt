@@ -8,7 +8,7 @@ use Rattle.math.specs.Sqrt.{sqrt_of}
 use Rattle.math.specs.Loops.{iter}
 use Rattle.math.specs.Matrix.{rows, entry}
 use Rattle.math.specs.Parts.{part}
-use Rattle.re_cov.specs.ReCov.{dot_of, inverse_of, penalty_of}
+use Rattle.re_cov.specs.ReCov.{dot_of_two, sigma_inverse, penalty_of}
 use Rattle.linalg.specs.Loops.{tries}
 use Rattle.linalg.specs.Pair as Pair
 use Rattle.quadrature.specs.Orders.{product_of}
@@ -58,7 +58,7 @@ node_of k order t = cond (eqb k 1) (line_node order t) (grid_node order (t % ord
 unfoldable pub effects_at_node : ℕ → List (List Float) → Node → List Float → List Float
 effects_at_node k s n b =
     cond (eqb k 1) (add (get_or b 0 nan) (mul (entry s 0 0) n.z0) ∷ zero ∷ [])
-    (add (get_or b 0 nan) (dot_of (entry s 0 0) (entry s 0 1) n.z0 n.z1) ∷ add (get_or b 1 nan) (dot_of (entry s 1 0) (entry s 1 1) n.z0 n.z1) ∷ [])
+    (add (get_or b 0 nan) (dot_of_two (entry s 0 0) (entry s 0 1) n.z0 n.z1) ∷ add (get_or b 1 nan) (dot_of_two (entry s 1 0) (entry s 1 1) n.z0 n.z1) ∷ [])
 
 -- a node's term: the logarithm of its weight, less half of what the rss over sigma2 and the penalty gain
 unfoldable pub term_of : Float → Float → Float → Float → Float → Float → Float
@@ -97,7 +97,7 @@ module _ (q : Problem) (values : List Float) (sigma2 : Float) (order : ℕ) wher
 
     -- the curvature: the covariance's inverse, then the products of the readings' gradients, each divided by sigma2
     abbrev pub curvature_of : List (List Float)
-    curvature_of = block_by (λ x. div x sigma2) q values b doses (inverse_of (k q) q.theta)
+    curvature_of = block_by (λ x. div x sigma2) q values b doses (sigma_inverse (k q) q.theta)
 
     -- readings that are none add nothing
     unfoldable pub add_group : Float → Option Float

@@ -6,7 +6,7 @@ use Rattle.math.specs.Basic.{add, mul, zero, two}
 use Rattle.math.specs.Ln.{ln_of}
 use Rattle.math.specs.Matrix.{entry}
 use Rattle.math.specs.Parts.{part}
-use Rattle.re_cov.specs.ReCov.{inverse_of, log_det_of}
+use Rattle.re_cov.specs.ReCov.{sigma_inverse, log_det_of}
 use Rattle.linalg.specs.Loops.{tries}
 use Rattle.linalg.specs.Pair.{cholesky_of}
 use Rattle.fit_refusals.specs.Problem.{Problem, k}
@@ -20,7 +20,7 @@ module _ (q : Problem) (values b : List Float) where
   -- the factor of group g's block: the covariance's inverse, then the products of the group's own readings in order
   unfoldable pub group_factor : ℕ → Option (List (List Float))
   group_factor g =
-      cholesky_of (k q) (block_by (λ x. x) q values (part (g * k q) (k q) b) (own_of q.groups g q.doses) (inverse_of (k q) q.theta))
+      cholesky_of (k q) (block_by (λ x. x) q values (part (g * k q) (k q) b) (own_of q.groups g q.doses) (sigma_inverse (k q) q.theta))
 
   -- with group g's logarithms, of which there are none where its factor is none
   abbrev pub add_logs : ℕ → Float → Option Float

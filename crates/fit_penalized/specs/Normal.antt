@@ -5,7 +5,7 @@ use Rattle.std.specs.Float.Ieee.{eq}
 use Rattle.math.specs.Basic.{sub, zero}
 use Rattle.math.specs.Loops.{iter}
 use Rattle.curves.specs.declared.Mean.{Mean}
-use Rattle.re_cov.specs.ReCov.{inverse_of}
+use Rattle.re_cov.specs.ReCov.{sigma_inverse}
 use Rattle.block_solve.specs.declared.normal.BlockNormal.{BlockNormal}
 use Rattle.block_solve.specs.Normal.{empty_of, accumulate_of, prior_of}
 use Rattle.fit_refusals.specs.Problem.{Problem, p, k}
@@ -47,4 +47,4 @@ module _ (q : Problem) where
   blocks_of m s = prior_of (k q) q.group_count m (take (q.group_count * k q) s.effects) (readings_of s)
 
   abbrev pub normal_blocks : State → BlockNormal
-  normal_blocks s = blocks_of (inverse_of (k q) q.theta) s
+  normal_blocks s = blocks_of (sigma_inverse (k q) q.theta) s

@@ -22,12 +22,12 @@ lower_chol_of k theta =
     cond (eqb k 1) (rows a zero zero zero) (rows a zero (get_or theta 1 nan) (max_of (get_or theta 2 nan) 1e-8))
 
 -- the product of two rows: from 0, in rising index
-unfoldable pub dot_of : Float → Float → Float → Float → Float
-dot_of a b c d = add (add zero (mul a c)) (mul b d)
+unfoldable pub dot_of_two : Float → Float → Float → Float → Float
+dot_of_two a b c d = add (add zero (mul a c)) (mul b d)
 
 -- row i of l times row j
 abbrev pub row_times : List (List Float) → ℕ → ℕ → Float
-row_times l i j = dot_of (entry l i 0) (entry l i 1) (entry l j 0) (entry l j 1)
+row_times l i j = dot_of_two (entry l i 0) (entry l i 1) (entry l j 0) (entry l j 1)
 
 -- `sigma_from_theta`: the factor times its transpose
 unfoldable pub sigma_of : ℕ → List Float → List (List Float)
@@ -37,19 +37,19 @@ sigma_of k theta =
     (rows (row_times l 0 0) (row_times l 0 1) (row_times l 1 0) (row_times l 1 1))
 
 -- the determinant, not below 1e-16
-unfoldable pub det_of : List (List Float) → Float
-det_of s = max_of (sub (mul (entry s 0 0) (entry s 1 1)) (mul (entry s 0 1) (entry s 1 0))) 1e-16
+unfoldable pub sigma_det : List (List Float) → Float
+sigma_det s = max_of (sub (mul (entry s 0 0) (entry s 1 1)) (mul (entry s 0 1) (entry s 1 0))) 1e-16
 
 -- `sigma_inv_from_theta`, from the covariance on
 unfoldable pub inverse_from : ℕ → List (List Float) → List (List Float)
 inverse_from k s =
     cond (eqb k 1) (rows (div one (max_of (entry s 0 0) 1e-16)) zero zero zero)
-    (rows (div (entry s 1 1) (det_of s)) (div (neg (entry s 0 1)) (det_of s)) (div (neg (entry s 1 0)) (det_of s))
-    (div (entry s 0 0) (det_of s)))
+    (rows (div (entry s 1 1) (sigma_det s)) (div (neg (entry s 0 1)) (sigma_det s)) (div (neg (entry s 1 0)) (sigma_det s))
+    (div (entry s 0 0) (sigma_det s)))
 
 -- `sigma_inv_from_theta`
-unfoldable pub inverse_of : ℕ → List Float → List (List Float)
-inverse_of k theta = inverse_from k (sigma_of k theta)
+unfoldable pub sigma_inverse : ℕ → List Float → List (List Float)
+sigma_inverse k theta = inverse_from k (sigma_of k theta)
 
 -- `log_det_sigma`: twice the sum, from 0, of the logarithms of the factor's diagonal
 unfoldable pub log_det_of : ℕ → List Float → Float

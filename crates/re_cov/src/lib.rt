@@ -5,7 +5,7 @@
 #![tactic(auto)]
 
 ghost use Rattle.std.specs.Prelude.{◌≡◌};
-ghost use Rattle.re_cov.specs.ReCov.{lower_chol_of, dot_of, sigma_of, inverse_from, inverse_of, log_det_of, lower_solve_of, penalty_of};
+ghost use Rattle.re_cov.specs.ReCov.{lower_chol_of, dot_of_two, sigma_of, inverse_from, sigma_inverse, log_det_of, lower_solve_of, penalty_of};
 
 // What an entry of the lower factor's diagonal is at least, what is divided by in the inverse, and in `lower_solve`.
 const LEAST_DIAGONAL: f64 = 1e-8;
@@ -30,9 +30,9 @@ pub fn lower_chol(k: usize, theta: &[f64]) -> [[f64; 2]; 2]
 }
 
 // The product of two rows of two, from 0; `group_blocks::dot` leaves the second product out for one effect.
-#[tactic(auto, unfolding(crate::specs::ReCov::dot_of))]
+#[tactic(auto, unfolding(crate::specs::ReCov::dot_of_two))]
 pub fn dot(a: f64, b: f64, c: f64, d: f64) -> f64
-    ensures { result ≡ dot_of a b c d }
+    ensures { result ≡ dot_of_two a b c d }
 {
     0.0 + a * c + b * d
 }
@@ -53,7 +53,7 @@ pub fn sigma_from_theta(k: usize, theta: &[f64]) -> [[f64; 2]; 2]
 }
 
 // The inverse in closed form.
-#[tactic(auto, unfolding(crate::specs::ReCov::inverse_from, crate::specs::ReCov::det_of))]
+#[tactic(auto, unfolding(crate::specs::ReCov::inverse_from, crate::specs::ReCov::sigma_det))]
 fn inverse(k: usize, sigma: [[f64; 2]; 2]) -> [[f64; 2]; 2]
     ensures { result ≡ inverse_from k sigma }
 {
@@ -66,9 +66,9 @@ fn inverse(k: usize, sigma: [[f64; 2]; 2]) -> [[f64; 2]; 2]
     [[d / det, -b / det], [-c / det, a / det]]
 }
 
-#[tactic(auto, unfolding(crate::specs::ReCov::inverse_of))]
+#[tactic(auto, unfolding(crate::specs::ReCov::sigma_inverse))]
 pub fn sigma_inv_from_theta(k: usize, theta: &[f64]) -> [[f64; 2]; 2]
-    ensures { result ≡ inverse_of k theta.now }
+    ensures { result ≡ sigma_inverse k theta.now }
 {
     inverse(k, sigma_from_theta(k, theta))
 }

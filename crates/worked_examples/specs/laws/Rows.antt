@@ -8,7 +8,7 @@ use Rattle.curves.specs.MeanFn.{n_params_of}
 use Rattle.curves.specs.Curve.{curve_of}
 use Rattle.curves.specs.laws.Computes.{curve_computes}
 use Rattle.quadrature.specs.Orders.{gh_order_of}
-use Rattle.re_cov.specs.ReCov.{inverse_of, penalty_of}
+use Rattle.re_cov.specs.ReCov.{sigma_inverse, penalty_of}
 use Rattle.re_cov.specs.laws.Computes.{re_cov_computes}
 use Rattle.self_start.specs.Start.{call_of}
 use Rattle.self_start.specs.laws.Computes.{start_computes}
@@ -33,7 +33,7 @@ points (Some n) = num n ∷ []
 unfoldable pub asked : Question → List Float
 asked (curve code values dose places) = map (λ (i : ℕ). get_or (curve_of code values dose).1 i nan) places
 asked (order n) = points (gh_order_of n)
-asked (inverse k theta) = flatten (map (take k) (take k (inverse_of k theta)))
+asked (inverse k theta) = flatten (map (take k) (take k (sigma_inverse k theta)))
 asked (penalty k theta effects) = penalty_of k theta effects ∷ []
 asked (start code doses grams) = (call_of code doses grams (replicate (n_params_of code) nan)).values
 
