@@ -23,22 +23,22 @@ damped_at damping x = add x (mul damping (max_of x 1e-8))
 -- ---- the group solved
 
 -- a row of k numbers times a column, from 0 on
-unfoldable pub dot_of : ℕ → Float × Float → Float × Float → Float
-dot_of k a x = cond (eqb k 1) (add zero (mul a.0 x.0)) (add (add zero (mul a.0 x.0)) (mul a.1 x.1))
+unfoldable pub dot_of_effects : ℕ → Float × Float → Float × Float → Float
+dot_of_effects k a x = cond (eqb k 1) (add zero (mul a.0 x.0)) (add (add zero (mul a.0 x.0)) (mul a.1 x.1))
 
 module _ (k p : ℕ) (b : Group) where
   -- the block solved for row j of the cross block
-  abbrev pub column_of : ℕ → Option (Float × Float)
-  column_of j = let r = get_or b.cross j (nan, nan) in pair_of k b.block r.0 r.1
+  abbrev pub solved_column : ℕ → Option (Float × Float)
+  solved_column j = let r = get_or b.cross j (nan, nan) in pair_of k b.block r.0 r.1
 
   abbrev pub stored : ℕ → List (Float × Float) → Option (List (Float × Float))
-  stored j w = option_map (set w j) (column_of j)
+  stored j w = option_map (set w j) (solved_column j)
 
-  unfoldable pub columns_of : Option (List (Float × Float))
-  columns_of = tries stored p (replicate 4 (zero, zero))
+  unfoldable pub solved_columns : Option (List (Float × Float))
+  solved_columns = tries stored p (replicate 4 (zero, zero))
 
   abbrev pub with_columns : Float × Float → Option Solution
-  with_columns v = option_map (λ w. record { pair = v; columns = w }) columns_of
+  with_columns v = option_map (λ w. record { pair = v; columns = w }) solved_columns
 
   unfoldable pub solution_of : Option Solution
   solution_of = option_and_then with_columns (pair_of k b.block b.rhs.0 b.rhs.1)
@@ -46,7 +46,7 @@ module _ (k p : ℕ) (b : Group) where
 -- the fixed system less the cross block times the columns, and its right-hand side less it times the pair
 module _ (k p : ℕ) (b : Group) (o : Solution) where
   abbrev pub cross_times : ℕ → Float × Float → Float
-  cross_times i x = dot_of k (get_or b.cross i (nan, nan)) x
+  cross_times i x = dot_of_effects k (get_or b.cross i (nan, nan)) x
 
   abbrev pub reduce_at : ℕ → ℕ → List Float → List Float
   reduce_at i j a = set a (i * 4 + j) (sub (get_or a (i * 4 + j) nan) (cross_times i (get_or o.columns j (nan, nan))))

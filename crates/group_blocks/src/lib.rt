@@ -5,7 +5,7 @@
 ghost use Rattle.std.specs.Prelude.{◌≡◌, ◌+◌, ◌*◌, ◌≤◌, ◌<◌, ◌↔◌, IsSome, IfSome, IsTrue, length};
 ghost use Rattle.math.specs.Basic.{is_finite};
 ghost use Rattle.math.specs.Lists.{every};
-ghost use Rattle.group_blocks.specs.Groups.{fits, damped_at, dot_of, columns_of, solution_of, reduce_row, reduce_by};
+ghost use Rattle.group_blocks.specs.Groups.{fits, damped_at, dot_of_effects, solved_columns, solution_of, reduce_row, reduce_by};
 ghost use Rattle.group_blocks.specs.Components.{columns_times, effects_of, components_of};
 
 use linalg::elimination::System;
@@ -69,7 +69,7 @@ pub fn damped(x: f64, damping: f64) -> f64
 // A row of k numbers times a column. k is a count, and with one effect the second product is left out,
 // which `re_cov::dot` always adds.
 fn dot(k: usize, row: (f64, f64), column: (f64, f64)) -> f64
-    ensures { result ≡ dot_of k row column }
+    ensures { result ≡ dot_of_effects k row column }
 {
     let t = 0.0 + row.0 * column.0;
     if k == 1 { t } else { t + row.1 * column.1 }
@@ -77,7 +77,7 @@ fn dot(k: usize, row: (f64, f64), column: (f64, f64)) -> f64
 
 impl Group {
     fn columns(&self, shape: Shape) -> Option<[(f64, f64); 4]>
-        ensures { result ≡ columns_of shape.k shape.p self.now }
+        ensures { result ≡ solved_columns shape.k shape.p self.now }
     {
         let mut w = [(0.0, 0.0); 4];
         // By index: w is written beside the rows that are read, and of `iter_mut` under `zip` nothing is known to a proof.
