@@ -48,8 +48,8 @@ corrected c (Some q) = add c q
 -- at the curve values and effects that a fit wrote, with its rss
 module _ (q : Problem) (values b : List Float) where
   -- the scalar branch has no gradients in it
-  unfoldable pub det_of : Bool → Float
-  det_of scalar = cond scalar (mul (count_of q.group_count) (log_det_of (k q) q.theta)) (logdet_of q values b)
+  unfoldable pub profile_logdet : Bool → Float
+  profile_logdet scalar = cond scalar (mul (count_of q.group_count) (log_det_of (k q) q.theta)) (logdet_of q values b)
 
   unfoldable pub profile_from : Bool → ℕ → Float → Profile
   profile_from reml nAgq rss =
@@ -57,5 +57,5 @@ module _ (q : Problem) (values b : List Float) where
       let pen = penalty_sum q b in
       let df = df_of reml (length q.doses) (p q) in
       let sigma2 = sigma2_of scalar rss pen df in
-      let c = laplace_of scalar reml (length q.doses) q.group_count (k q) (p q) df sigma2 rss pen (det_of scalar) in
+      let c = laplace_of scalar reml (length q.doses) q.group_count (k q) (p q) df sigma2 rss pen (profile_logdet scalar) in
       record { criterion = corrected c (agq_of q values b sigma2 nAgq); sigma2 = sigma2 }

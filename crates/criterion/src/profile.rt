@@ -1,7 +1,7 @@
 // The criterion and sigma2 at what a fit answers (`profile_objective`).
 ghost use Rattle.std.specs.Prelude.{◌≡◌};
 ghost use Rattle.fit_refusals.specs.Given.{checked};
-ghost use Rattle.criterion.specs.Profile.{df_of, sigma2_of, scalar_of, reml_of, ml_of, laplace_of, det_of, profile_from};
+ghost use Rattle.criterion.specs.Profile.{df_of, sigma2_of, scalar_of, reml_of, ml_of, laplace_of, profile_logdet, profile_from};
 
 use criterion_agq::agq_correction;
 use criterion_groups::Estimate;
@@ -101,9 +101,9 @@ impl Terms {
 }
 
 // The scalar branch has no gradients in it.
-#[tactic(auto, unfolding(crate::specs::Profile::det_of))]
+#[tactic(auto, unfolding(crate::specs::Profile::profile_logdet))]
 fn logdet(at: &Estimate<'_>, scalar: bool) -> f64
-    ensures { result ≡ det_of (checked at.now.problem.now) at.now.values at.now.b.now scalar }
+    ensures { result ≡ profile_logdet (checked at.now.problem.now) at.now.values at.now.b.now scalar }
 {
     if scalar {
         covariance_logdet(at.problem)

@@ -23,7 +23,7 @@ use Rattle.criterion_groups.specs.Groups.{own_of, gradients_at, group_squares, a
 use Rattle.linalg.specs.Loops.{tries}
 use Rattle.criterion_logdet.specs.LogDet.{logs_of, group_factor, logdet_of}
 use Rattle.criterion_agq.specs.Agq.{scaling_of, node_of, effects_at_node, term_of, terms_of, add_group, group_at, groups_of, agq_of}
-use Rattle.criterion.specs.Profile.{df_of, sigma2_of, laplace_of, det_of, profile_from}
+use Rattle.criterion.specs.Profile.{df_of, sigma2_of, laplace_of, profile_logdet, profile_from}
 use Rattle.criterion.specs.Answer.{profile_of}
 
 -- a problem without bounds, at its start: no round is allowed
@@ -79,5 +79,5 @@ rows =
     ∷ []
 
 pub rows_hold : T (every holds rows)
-unfolding rows Ieee.round Ieee.le Ieee.of_int to_bits curve_computes re_cov_computes direction_computes gh_order_of order_within_cap capped_order Rules.gh_nodes Rules.gh_weights Rules.z3 Rules.w3 log_sum_exp state_computes random_gradients rss_of penalty_sum rounds trace_of fit_of own_of gradients_at group_squares add_by block_by tries logs_of group_factor logdet_of scaling_of node_of effects_at_node term_of terms_of add_group group_at groups_of agq_of is_scalar df_of sigma2_of laplace_of det_of profile_from profile_of
+unfolding rows Ieee.round Ieee.le Ieee.of_int to_bits curve_computes re_cov_computes direction_computes gh_order_of order_within_cap capped_order Rules.gh_nodes Rules.gh_weights Rules.z3 Rules.w3 log_sum_exp state_computes random_gradients rss_of penalty_sum rounds trace_of fit_of own_of gradients_at group_squares add_by block_by tries logs_of group_factor logdet_of scaling_of node_of effects_at_node term_of terms_of add_group group_at groups_of agq_of is_scalar df_of sigma2_of laplace_of profile_logdet profile_from profile_of
 rows_hold = tt
