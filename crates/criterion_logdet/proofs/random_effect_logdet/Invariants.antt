@@ -1,3 +1,4 @@
+-- total has the logarithms of the first g groups, each of which has a factor.
 use Rattle.std.proofs.Common.{◌≡◌, Some}
 use Rattle.linalg.specs.Loops.{tries}
 use Rattle.fit_refusals.specs.Given.{checked}

@@ -1,3 +1,4 @@
+-- The loop keeps what `Going` says (proofs/Loop.antt), and each narrowing leaves one less to make.
 use Prim.Native.Nat.{◌-◌}
 use Rattle.golden.proofs.Loop.{Going}
 use Rattle.golden.proofs.optimize_theta_golden.Given as goal

@@ -1,3 +1,4 @@
+-- Before group 0 the fixed values alone are written: the first p places are what was copied there.
 use Rattle.std.proofs.Common.{◌≡◌, ◌∙◌, length, take, zero-mul, add-zero, arith, length-take}
 use Rattle.std.proofs.lemmas.List.{take_at}
 use Rattle.math.specs.laws.Loops.{span_none}

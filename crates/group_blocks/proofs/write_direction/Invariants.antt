@@ -1,3 +1,4 @@
+-- Written are the p fixed values and the effects of the first g groups.
 use Rattle.std.proofs.Common.{◌≡◌, ◌+◌, ◌*◌, take}
 use Rattle.math.specs.Loops.{span}
 use Rattle.group_blocks.specs.Components.{append_group}

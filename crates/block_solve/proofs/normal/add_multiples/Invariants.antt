@@ -1,3 +1,4 @@
+-- The first i multiples are added.
 use Rattle.std.proofs.Common.{◌≡◌, ◌+◌}
 use Rattle.math.specs.Loops.{iter}
 use Rattle.block_solve.specs.Blocks.{multiple_in}

@@ -1,3 +1,4 @@
+-- The first i rows of products are added, and of the row at hand the first j products.
 use Rattle.std.proofs.Common.{◌≡◌, ◌+◌, ◌*◌, length}
 use Rattle.math.specs.Loops.{iter}
 use Rattle.block_solve.specs.Blocks.{product_in, product_row}

@@ -1,3 +1,4 @@
+-- total is the sum of the first g groups, none of which ended it.
 use Rattle.std.proofs.Common.{◌≡◌, Some}
 use Rattle.math.specs.Basic.{zero}
 use Rattle.linalg.specs.Loops.{tries}

@@ -1,3 +1,4 @@
+-- The terms are those of the first t nodes, and t of them.
 use mathlib.Core.Path.{◌≡◌}
 use mathlib.Core.List.{[]}
 use lib.ListN.{length}

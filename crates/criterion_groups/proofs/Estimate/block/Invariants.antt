@@ -1,3 +1,4 @@
+-- The products at the readings so far are added, each as whatever function `each` computes leaves it.
 use mathlib.Core.Path.{◌≡◌}
 use lib.Ieee.{Float}
 use Rattle.math.specs.Loops.{iter}

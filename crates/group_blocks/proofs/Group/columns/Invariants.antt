@@ -1,3 +1,4 @@
+-- The first j columns are solved, each with a solution.
 use Rattle.std.proofs.Common.{◌≡◌, Some}
 use Rattle.linalg.specs.Loops.{tries}
 use Rattle.group_blocks.specs.Groups.{stored}

@@ -1,3 +1,4 @@
+-- The first i rows are reduced.
 use Rattle.std.proofs.Common.{◌≡◌}
 use Rattle.math.specs.Loops.{span}
 use Rattle.group_blocks.specs.Groups.{reduce_row}

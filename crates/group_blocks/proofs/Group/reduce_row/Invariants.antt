@@ -1,3 +1,4 @@
+-- The first j entries of row i are reduced; the right-hand side is as it was.
 use Rattle.std.proofs.Common.{◌≡◌}
 use Rattle.math.specs.Loops.{span}
 use Rattle.group_blocks.specs.Groups.{reduce_at}

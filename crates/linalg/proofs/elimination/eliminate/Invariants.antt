@@ -1,3 +1,4 @@
+-- The first i columns are cleared, each with a pivot that is not zero.
 use Rattle.std.proofs.Common.{◌≡◌, Some}
 use Rattle.linalg.specs.Loops.{tries}
 use Rattle.linalg.specs.Elimination.{column_of}

@@ -1,3 +1,4 @@
+-- The first i rows of the group's prior are added, and of the row at hand the first j entries.
 use Rattle.std.proofs.Common.{◌≡◌, length}
 use Rattle.math.specs.Loops.{iter}
 use Rattle.block_solve.specs.Normal.{prior_at, prior_row}

@@ -1,3 +1,4 @@
+-- The first g groups have their prior.
 use Rattle.std.proofs.Common.{◌≡◌}
 use Rattle.math.specs.Loops.{iter}
 use Rattle.block_solve.specs.Normal.{prior_turn}

@@ -1,3 +1,4 @@
+-- The first i entries of the diagonal are damped, and nothing else.
 use Rattle.std.proofs.Common.{◌≡◌}
 use Rattle.math.specs.Loops.{span}
 use Rattle.block_solve.specs.Direction.{diagonal_at}

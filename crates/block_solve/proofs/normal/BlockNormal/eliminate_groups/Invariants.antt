@@ -1,3 +1,4 @@
+-- e is what the definition's first g turns come to, each with a solution.
 use Rattle.std.proofs.Common.{◌≡◌, Some}
 use Rattle.linalg.specs.Loops.{tries}
 use Rattle.block_solve.specs.Direction.{group_turn, untouched, damped_fixed}

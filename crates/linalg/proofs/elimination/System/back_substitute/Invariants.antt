@@ -1,3 +1,4 @@
+-- What the i rows still to come make of x is the whole back substitution.
 use Rattle.std.proofs.Common.{◌≡◌}
 use Rattle.linalg.specs.Loops.{down}
 use Rattle.linalg.specs.Elimination.{known, back_of}

@@ -1,3 +1,4 @@
+-- The rows from i + 1 up to r are cleared.
 use Rattle.std.proofs.Common.{◌≡◌, ◌+◌}
 use Rattle.math.specs.Loops.{span}
 use Rattle.linalg.specs.Elimination.{clear_row}

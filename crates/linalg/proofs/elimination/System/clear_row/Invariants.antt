@@ -1,3 +1,4 @@
+-- The entries of row r from column i up to j are cleared; the right-hand side is as it was.
 use Rattle.std.proofs.Common.{◌≡◌}
 use Rattle.math.specs.Loops.{span}
 use Rattle.linalg.specs.Elimination.{less_at}

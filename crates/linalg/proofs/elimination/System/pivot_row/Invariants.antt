@@ -1,3 +1,4 @@
+-- best is the pivot's row among those from i up to r.
 use Rattle.std.proofs.Common.{◌≡◌, ◌<◌, ◌+◌}
 use Rattle.math.specs.Loops.{span}
 use Rattle.linalg.specs.Elimination.{better}

@@ -1,3 +1,4 @@
+-- The first j entries of the two rows have changed places; the right-hand side is as it was.
 use Rattle.std.proofs.Common.{◌≡◌}
 use Rattle.math.specs.Loops.{span}
 use Rattle.linalg.specs.Elimination.{swap_column}
