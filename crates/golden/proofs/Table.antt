@@ -49,15 +49,17 @@ pub good_says : (r : Row) → T (good r)
     → ((r.l - r.h' + 2) * 910872158600853 + 562949953421312 ≤ r.l' * 562949953421312) × (r.h' * 562949953421312 + 562949953421312 + 2 * 910872158600853 ≤ (r.h - r.l') * 910872158600853)
     × (r.h' ≤ r.l) × (r.l' ≤ r.h) × (r.h - r.l' ≤ r.l') × (3 ≤ r.l')
 good_says r t =
-    let a = both _ _ t in
-    let b = both _ _ a.1 in
-    let c = both _ _ b.1 in
-    let d = both _ _ c.1 in
-    let e = both _ _ d.1 in
-    (leb→le _ _ a.0, leb→le _ _ b.0, leb→le _ _ c.0, leb→le _ _ d.0, leb→le _ _ e.0, leb→le _ _ e.1)
-  where
-    both : (x y : Bool) → T (x && y) → T x × T y
-    both x y t = (and_l x y t, and_r x y t)
+    let b = and_r _ _ t in
+    let c = and_r _ _ b in
+    let d = and_r _ _ c in
+    let e = and_r _ _ d in (
+      leb→le _ _ (and_l _ _ t),
+      leb→le _ _ (and_l _ _ b),
+      leb→le _ _ (and_l _ _ c),
+      leb→le _ _ (and_l _ _ d),
+      leb→le _ _ (and_l _ _ e),
+      leb→le _ _ (and_r _ _ e),
+    )
 
 -- the tolerance is above 28147497671 units and below 28147497672; the width against it
 pub row_wide : (n : ℕ) → n < 26 → 28147497674 ≤ (row n).l

@@ -8,9 +8,9 @@ use lib.ListN.{length}
 use lib.Ieee.{Float, binary64, lt, is_nan, round, of_int}
 use lib.Ieee.Back.{round_whole}
 use lib.Ieee.Positive.{positive_of_value}
+use Rattle.std.proofs.lemmas.Bool.{and_parts}
 use Rattle.math.specs.Basic.{is_finite, add}
 use Rattle.math.specs.laws.Numbers.{finite_number, add_number, div_number}
-use Rattle.math.specs.laws.Lists.{both}
 use Rattle.math.specs.laws.Order.{clash'}
 use Rattle.sorting.specs.Pairs.{Pair}
 use Rattle.sorting.specs.Sort.{insert, insert_all, sort_of, Keyed, Sortable}
@@ -23,7 +23,7 @@ Finite [] = Unit
 Finite (p ∷ ps) = ((is_finite p.0 && is_finite p.1) ≡ true) × Finite ps
 
 gram_finite : (p : Pair) → (is_finite p.0 && is_finite p.1) ≡ true → is_finite p.1 ≡ true
-gram_finite p h = (both (is_finite p.0) (is_finite p.1) h).1
+gram_finite p h = (and_parts (is_finite p.0) (is_finite p.1) h).1
 
 finite_pairs_lem : (l : List Pair) → Finite (finite_pairs l)
 unfolding Finite
@@ -37,7 +37,7 @@ finite_pairs_lem (p ∷ ps) = by_test (finite_pairs_lem ps) (is_finite p.0 && is
 finite_keyed : (l : List Pair) → Finite l → Keyed l
 unfolding Finite Keyed
 finite_keyed [] f = tt
-finite_keyed (p ∷ ps) f = (finite_number p.0 (both (is_finite p.0) (is_finite p.1) f.0).0, finite_keyed ps f.1)
+finite_keyed (p ∷ ps) f = (finite_number p.0 (and_parts (is_finite p.0) (is_finite p.1) f.0).0, finite_keyed ps f.1)
 
 finite_few : (l : List Pair) → length (finite_pairs l) ≤ length l
 finite_few [] = omega arith
@@ -99,7 +99,7 @@ points_numbered l b = averaged_numbered (sort_of (finite_pairs l)) b (finite_sor
 pub grams_keyed : (l : List Pair) → numbered l ≡ true → Keyed (swapped l)
 unfolding Keyed
 grams_keyed [] h = tt
-grams_keyed (p ∷ ps) h = let b = both (not (is_nan p.1)) (numbered ps) h in (not_true (is_nan p.1) b.0, grams_keyed ps b.1)
+grams_keyed (p ∷ ps) h = let b = and_parts (not (is_nan p.1)) (numbered ps) h in (not_true (is_nan p.1) b.0, grams_keyed ps b.1)
   where
     not_true : (b : Bool) → not b ≡ true → b ≡ false
     not_true true h = clash' h
