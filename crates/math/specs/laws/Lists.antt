@@ -1,21 +1,16 @@
 -- A test of a list, element by element, for the loops that make it; lists that are the same.
-use Rattle.std.specs.Prelude.{◌≡◌, ℕ, zero, suc, ◌+◌, ◌<◌, ◌≤◌, Bool, true, false, ◌&&◌, T, List, [], ◌∷◌, length, drop, ◌==◌, slice_index_or, refl}
+use Rattle.std.specs.Prelude.{◌≡◌, ℕ, zero, suc, ◌+◌, ◌<◌, ◌≤◌, Bool, true, false, T, List, [], ◌∷◌, length, drop, ◌==◌, slice_index_or, refl}
 use Rattle.std.proofs.Common.{sym, ap, ◌∙◌, subst, le_of_suc-le-suc, not-suc-le-zero, add-one, eq-eqb, eqb-true, drop_of_length-le}
 use Rattle.std.proofs.Math.Seq.{drop-cons}
+use Rattle.std.proofs.lemmas.Bool.{and_parts}
 use Rattle.math.specs.Lists.{every, same_lists, same_bytes}
-
--- ---- two tests that are joined
-
-pub both : (a b : Bool) → (a && b) ≡ true → (a ≡ true) × (b ≡ true)
-both true b h = (refl, h)
-both false b h = absurd (subst T (sym h) tt)
 
 -- ---- what every element passes, each does
 
 pub every_at : {A : Type 0} (t : A → Bool) (l : List A) (i : ℕ) (d : A) → every t l ≡ true → i < length l → t (slice_index_or l i d) ≡ true
 every_at t [] i d h p = absurd (not-suc-le-zero p)
-every_at t (x ∷ xs) zero d h p = (both (t x) (every t xs) h).0
-every_at t (x ∷ xs) (suc i) d h p = every_at t xs i d (both (t x) (every t xs) h).1 (le_of_suc-le-suc p)
+every_at t (x ∷ xs) zero d h p = (and_parts (t x) (every t xs) h).0
+every_at t (x ∷ xs) (suc i) d h p = every_at t xs i d (and_parts (t x) (every t xs) h).1 (le_of_suc-le-suc p)
 
 -- ---- the test from place i on, as a loop makes it
 
@@ -42,7 +37,7 @@ same_equal [] [] h = refl
 same_equal [] (y ∷ b) h = absurd (subst T (sym h) tt)
 same_equal (x ∷ a) [] h = absurd (subst T (sym h) tt)
 same_equal (x ∷ a) (y ∷ b) h =
-    let j = both (x == y) (same_bytes a b) h in
+    let j = and_parts (x == y) (same_bytes a b) h in
     rw (eqb-true x y j.0) (ap (λ (l : List ℕ). y ∷ l) (same_equal a b j.1))
 
 pub same_bytes_lem : (r : Bool) (a b : List ℕ) → (r ≡ true → a ≡ b) × (a ≡ b → r ≡ true) → r ≡ same_bytes a b
