@@ -3,7 +3,7 @@ use Rattle.std.proofs.Common.{◌≡◌, ℕ, ◌+◌, ◌-◌, ◌*◌, ◌/◌
 use lib.Ieee.{Float, fin, binary64, up, down, round, of_bits}
 use lib.Ieee.Fits.{down_pos}
 use Rattle.math.specs.laws.Loops.{pick_true}
-use Rattle.text_floats.specs.Floats.{nearest_whole, ten, million, large, little, powers}
+use Rattle.text_floats.specs.Floats.{nearest_whole, float_ten, million, large, little, powers}
 
 -- a / 10 ^ k
 abbrev decimal : ℕ → ℕ → Float
@@ -13,7 +13,7 @@ pub powers_are : powers ≡ decimal 1000000 0 ∷ decimal 100000 0 ∷ decimal 1
 unfolding powers of_bits round
 powers_are = refl
 
-pub constants_are : ten ∷ million ∷ large ∷ little ∷ [] ≡ decimal 10 0 ∷ decimal 1000000 0 ∷ decimal (10 ^ 15) 0 ∷ decimal 1 5 ∷ []
+pub constants_are : float_ten ∷ million ∷ large ∷ little ∷ [] ≡ decimal 10 0 ∷ decimal 1000000 0 ∷ decimal (10 ^ 15) 0 ∷ decimal 1 5 ∷ []
 unfolding of_bits round
 constants_are = refl
 

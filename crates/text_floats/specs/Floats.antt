@@ -30,8 +30,8 @@ unfoldable pub fraction_text : ℕ → ℕ → List ℕ
 fraction_text n zero = []
 fraction_text n (suc d) = codes "." ++ last_digits (suc d) n
 
-unfoldable pub point_text : ℕ → ℕ → List ℕ
-point_text n d = whole_text (n / 10 ^ d) ++ fraction_text n d
+unfoldable pub unsigned_text : ℕ → ℕ → List ℕ
+unsigned_text n d = whole_text (n / 10 ^ d) ++ fraction_text n d
 
 -- the same number as another n and d, without zeros at the end of its decimals
 unfoldable pub shortened : ℕ → ℕ → ℕ × ℕ
@@ -43,23 +43,23 @@ unfoldable pub sign_text : Float → ℕ → List ℕ
 sign_text x n = cond (lt x Basic.zero && nat_lt 0 n) (codes "-") []
 
 unfoldable pub signed_text : Float → ℕ → ℕ → List ℕ
-signed_text x n d = sign_text x n ++ point_text n d
+signed_text x n d = sign_text x n ++ unsigned_text n d
 
 -- ---- scientific notation
 
 -- x as about m * 10 ^ e, with m at least 1 and below 10: x of 1 or more is divided by ten until it is below 10, x below 1 multiplied until it is 1 or
 -- more. Each step is rounded, and there are at most 400
-abbrev pub ten : Float
-ten = bits 0x4024_0000_0000_0000
+abbrev pub float_ten : Float
+float_ten = bits 0x4024_0000_0000_0000
 
 abbrev pub scaled : ℤ → Float → Scaled
 scaled e m = record { mantissa = m; power = e }
 
 unfoldable pub divided : ℕ → ℕ → Float → Scaled
-divided = until (λ e m. lt m ten) (λ e. scaled (pos e)) (λ e m. div m ten) (scaled (pos 400))
+divided = until (λ e m. lt m float_ten) (λ e. scaled (pos e)) (λ e m. div m float_ten) (scaled (pos 400))
 
 unfoldable pub multiplied : ℕ → ℕ → Float → Scaled
-multiplied = until (λ e m. le one m) (λ e. scaled (neg_ℤ (pos e))) (λ e m. mul m ten) (scaled (neg_ℤ (pos 400)))
+multiplied = until (λ e m. le one m) (λ e. scaled (neg_ℤ (pos e))) (λ e m. mul m float_ten) (scaled (neg_ℤ (pos 400)))
 
 unfoldable pub in_tens : Float → Scaled
 in_tens x = cond (lt x one) (multiplied 400 0 x) (divided 400 0 x)
@@ -93,8 +93,8 @@ scientific_text x =
 
 -- ---- with so many decimals, and to seven significant digits
 
-unfoldable pub tens : ℕ → Float
-tens d = of_int binary64 (pos (10 ^ d))
+unfoldable pub power_of_ten : ℕ → Float
+power_of_ten d = of_int binary64 (pos (10 ^ d))
 
 -- 10 ^ 15 and 10 ^ -5
 abbrev pub large : Float
@@ -107,7 +107,7 @@ little = bits 0x3ee4_f8b5_88e3_68f1
 -- notation
 unfoldable pub fixed_text : Float → ℕ → List ℕ
 fixed_text x d =
-    let m = mul (abs_of x) (tens d) in
+    let m = mul (abs_of x) (power_of_ten d) in
     cond (nat_le d 15 && lt m large) (signed_text x (nearest_whole m) d) (scientific_text x)
 
 -- the powers of ten from 10 ^ 6 down to 10 ^ -4
@@ -118,7 +118,7 @@ powers =
     ∷ bits 0x40c3_8800_0000_0000
     ∷ bits 0x408f_4000_0000_0000
     ∷ bits 0x4059_0000_0000_0000
-    ∷ ten
+    ∷ float_ten
     ∷ one
     ∷ bits 0x3fb9_9999_9999_999a
     ∷ bits 0x3f84_7ae1_47ae_147b
@@ -132,7 +132,7 @@ decimals_of x = unwrap_or (position (λ t. le t x) powers) 11
 
 -- |x| to seven significant digits, as n / 10 ^ d
 unfoldable pub seven_significant : Float → ℕ × ℕ
-seven_significant x = let d = decimals_of (abs_of x) in shortened (nearest_whole (mul (abs_of x) (tens d))) d
+seven_significant x = let d = decimals_of (abs_of x) in shortened (nearest_whole (mul (abs_of x) (power_of_ten d))) d
 
 -- as R prints it: without zeros at the end, in scientific notation where x is very small or large
 unfoldable pub figure_text : Float → List ℕ

@@ -8,17 +8,17 @@ ghost use Rattle.std.specs.List.{position};
 ghost use Rattle.std.specs.Float.Ieee.{le};
 ghost use Rattle.math.specs.Basic.{mul, abs_of};
 ghost use Rattle.text_buffer.specs.Text.{wrote};
-ghost use Rattle.text_floats.specs.Floats.{nearest_whole, shortened, decimals_of, tens, seven_significant};
+ghost use Rattle.text_floats.specs.Floats.{nearest_whole, shortened, decimals_of, power_of_ten, seven_significant};
 ghost use Rattle.text_floats.specs.Floats.{divided, multiplied, in_tens, seven_digits};
-ghost use Rattle.text_floats.specs.Floats.{fraction_text, point_text, sign_text, signed_text, two_digits, power_text, powered_text, fixed_text, figure_text, scientific_text};
+ghost use Rattle.text_floats.specs.Floats.{fraction_text, unsigned_text, sign_text, signed_text, two_digits, power_text, powered_text, fixed_text, figure_text, scientific_text};
 
 use text_buffer::Text;
 
 // |x| * 10^d.
-#[tactic(auto, unfolding(crate::specs::Floats::tens))]
+#[tactic(auto, unfolding(crate::specs::Floats::power_of_ten))]
 fn shifted(x: f64, d: u64) -> f64
     requires { d ≤ 15 }
-    ensures { result ≡ mul (abs_of x) (tens d) }
+    ensures { result ≡ mul (abs_of x) (power_of_ten d) }
 {
     math::abs(x) * std::num::nearest_u64_to_f64(10u64.pow(d as u32))
 }
@@ -57,9 +57,9 @@ fn fraction(out: &mut Text<'_>, v: Decimal)
     }
 }
 
-#[tactic(auto, using(text_buffer::specs::laws::Text::writing, crate::proofs::FloatLaws::ten_pos), unfolding(crate::specs::Floats::point_text))]
-fn point(out: &mut Text<'_>, v: Decimal)
-    ensures { out.new ≡ wrote out.old (point_text v.n v.d) }
+#[tactic(auto, using(text_buffer::specs::laws::Text::writing, crate::proofs::FloatLaws::ten_pos), unfolding(crate::specs::Floats::unsigned_text))]
+fn unsigned(out: &mut Text<'_>, v: Decimal)
+    ensures { out.new ≡ wrote out.old (unsigned_text v.n v.d) }
 {
     out.whole(v.n / 10u64.pow(v.d as u32));
     fraction(out, v);
@@ -80,7 +80,7 @@ fn signed(out: &mut Text<'_>, x: f64, v: Decimal)
     ensures { out.new ≡ wrote out.old (signed_text x v.n v.d) }
 {
     sign(out, x, v.n);
-    point(out, v);
+    unsigned(out, v);
 }
 
 // x with so many decimals; in scientific notation where the decimals or the digits would be more than 15, and nan, inf and -inf.
