@@ -4,7 +4,7 @@ use Rattle.math.specs.Basic.{mul}
 use Rattle.math.specs.Sqrt.{sqrt_of}
 use Rattle.refusal.specs.Refusal.{number_of}
 use Rattle.text_buffer.specs.Text.{joined}
-use Rattle.text_lines.specs.Lines.{filled}
+use Rattle.text_lines.specs.Lines.{template_text}
 use Rattle.svg_axes.specs.Subject.{Shown}
 use Rattle.refit_calculation.specs.declared.Answer.{Answer}
 use Rattle.refit_calculation.specs.declared.Refused.{Refused}
@@ -22,7 +22,7 @@ use Rattle.refit_tables.specs.Tables.{canisters_text, readings_text}
 unfoldable pub asked_text : Shown → List ℕ
 asked_text s =
     joined (
-    filled (codes "Refit\n  readings      %n, of %n canisters\n  curve         ") (length s.doses ∷ length s.effects ∷ []) []
+    template_text (codes "Refit\n  readings      %n, of %n canisters\n  curve         ") (length s.doses ∷ length s.effects ∷ []) []
     ∷ Words.curve_text s.code
     ∷ codes "\n  effect        each canister has its own "
     ∷ name_text s.code s.place
@@ -31,7 +31,7 @@ asked_text s =
 
 -- quadrature is asked for where the order is above 1
 unfoldable pub quadrature_text : ℕ → List ℕ
-quadrature_text order = cond (ltb 1 order) (filled (codes "  quadrature    order %n\n") (order ∷ []) []) []
+quadrature_text order = cond (ltb 1 order) (template_text (codes "  quadrature    order %n\n") (order ∷ []) []) []
 
 unfoldable pub beginning_text : Task → Shown → Bool → List ℕ
 beginning_text o s warned =
@@ -57,7 +57,7 @@ value_lines code =
     (codes "  A             %g\n  B             %g\n  xmid          %g\n  scal          %g\n")))
 
 unfoldable pub values_text : ℕ → List Float → List ℕ
-values_text code values = filled (value_lines code) [] values
+values_text code values = template_text (value_lines code) [] values
 
 -- which start values were not taken as the self-start answers them, and why
 unfoldable pub note_text : ℕ → List ℕ
@@ -85,7 +85,7 @@ converged_text is = cond is (codes "  converged\n") (codes "  *** NOT CONVERGED:
 unfoldable pub theta_text : Answer → List ℕ
 theta_text r =
     joined (
-    filled
+    template_text
     (codes "\nTheta, searched from 0.2 to 20\n  theta         %g\n  criterion     %g\n  search        %n narrowings, %n fits\n")
     (r.search.narrowings ∷ r.search.fits ∷ []) (r.search.theta ∷ r.search.criterion ∷ [])
     ∷ converged_text r.search.converged
@@ -95,7 +95,7 @@ theta_text r =
 unfoldable pub spread_of : ℕ → ℕ → Float → List ℕ
 spread_of code place x =
     joined (
-    filled (codes "  canisters'    %g   spread of their ") [] (x ∷ [])
+    template_text (codes "  canisters'    %g   spread of their ") [] (x ∷ [])
     ∷ name_text code place
     ∷ codes ": theta times the root of sigma2\n"
     ∷ [])
@@ -107,7 +107,7 @@ unfoldable pub fit_text : ℕ → ℕ → Answer → List ℕ
 fit_text code place r =
     let root = sqrt_of r.sigma2 in
     joined (
-    filled
+    template_text
     (codes
     "\nThe fit at theta\n  rounds        %n, with %n trials\n  rss           %g   the sum of the squared differences\n  sigma2        %g   the variance of a reading; its root is %g\n")
     (r.fit.rounds ∷ r.fit.trials ∷ []) (r.fit.rss ∷ r.sigma2 ∷ root ∷ [])
@@ -140,7 +140,7 @@ refused_text e =
     joined (
     codes "\n*** REFUSED: no "
     ∷ step_text e.step
-    ∷ filled (codes ". The library answers number %n: ") (number_of e.refusal ∷ []) []
+    ∷ template_text (codes ". The library answers number %n: ") (number_of e.refusal ∷ []) []
     ∷ refusal_text e.refusal
     ∷ codes " ***\n"
     ∷ [])

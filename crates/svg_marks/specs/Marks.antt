@@ -1,7 +1,7 @@
 -- A number of the picture, and the colour and the shape of a canister's marks.
 use Rattle.std.specs.Prelude.{ℕ, ◌+◌, ◌*◌, ◌/◌, ◌%◌, List, [], ◌∷◌, ◌++◌, Float, codes}
 use Rattle.text_floats.specs.Floats.{fixed_text}
-use Rattle.text_lines.specs.Lines.{word_of}
+use Rattle.text_lines.specs.Lines.{word_text}
 
 -- a text and then a number with one decimal
 abbrev pub number_text : List ℕ → Float → List ℕ
@@ -13,7 +13,7 @@ colours =
     codes "#0072B2" ∷ codes "#D55E00" ∷ codes "#009E73" ∷ codes "#CC79A7" ∷ codes "#E69F00" ∷ codes "#56B4E9" ∷ codes "#000000" ∷ codes "#999999" ∷ []
 
 unfoldable pub colour_text : ℕ → List ℕ
-colour_text g = word_of (g % 8) colours
+colour_text g = word_text (g % 8) colours
 
 -- what follows a path's first point: a circle, a square, a triangle, a diamond, a triangle on its point
 abbrev pub shapes : List (List ℕ)
@@ -26,7 +26,7 @@ shapes =
     ∷ []
 
 unfoldable pub path_text : ℕ → List ℕ
-path_text g = word_of ((g % 8 + g / 8 * 4) % 5) shapes
+path_text g = word_text ((g % 8 + g / 8 * 4) % 5) shapes
 
 unfoldable pub shape_text : ℕ → List ℕ
 shape_text g = path_text g ++ codes "\"/>\n"

@@ -20,23 +20,23 @@ cell_text width t = right_text width (take 64 t)
 
 -- ---- the word number k of a table, from 0; nothing past the last
 
-unfoldable pub word_of : ℕ → List (List ℕ) → List ℕ
-word_of k words = get_or words k []
+unfoldable pub word_text : ℕ → List (List ℕ) → List ℕ
+word_text k words = get_or words k []
 
 -- ---- a template: `%n` is the next whole number, `%g` the next float to seven digits, `%1` the next float with one decimal,
 -- `?` where none is left; any other byte after `%`, and every other byte, stands for itself
 
-abbrev pub next_of : {A : Type 0} → (A → List ℕ) → List A → List ℕ
-next_of f [] = codes "?"
-next_of f (a ∷ l) = f a
+abbrev pub next_number : {A : Type 0} → (A → List ℕ) → List A → List ℕ
+next_number f [] = codes "?"
+next_number f (a ∷ l) = f a
 
 unfoldable pub one_decimal : Float → List ℕ
 one_decimal x = fixed_text x 1
 
 unfoldable pub for_mark : ℕ → List ℕ → List Float → List ℕ
 for_mark c ns xs =
-    cond (eqb c 110) (next_of whole_text ns)
-    (cond (eqb c 103) (next_of figure_text xs) (cond (eqb c 49) (next_of one_decimal xs) (c ∷ [])))
+    cond (eqb c 110) (next_number whole_text ns)
+    (cond (eqb c 103) (next_number figure_text xs) (cond (eqb c 49) (next_number one_decimal xs) (c ∷ [])))
 
 -- the numbers that a mark leaves
 unfoldable pub wholes_after : ℕ → List ℕ → List ℕ
@@ -54,5 +54,5 @@ fill_from false (b ∷ t) ns xs =
     let rest = fill_from false t ns xs in
     cond (eqb b 37) mark (b ∷ rest)
 
-abbrev pub filled : List ℕ → List ℕ → List Float → List ℕ
-filled t ns xs = fill_from false t ns xs
+abbrev pub template_text : List ℕ → List ℕ → List Float → List ℕ
+template_text t ns xs = fill_from false t ns xs

@@ -3,7 +3,7 @@ ghost use Rattle.std.specs.Prelude.{◌≡◌, drop};
 ghost use Rattle.std.specs.Slice.Iter.{iter_rest};
 ghost use Rattle.text_buffer.specs.Text.{wrote, whole_text};
 ghost use Rattle.text_floats.specs.Floats.{figure_text};
-ghost use Rattle.text_lines.specs.Lines.{next_of, one_decimal, for_mark, wholes_after, floats_after, filled};
+ghost use Rattle.text_lines.specs.Lines.{next_number, one_decimal, for_mark, wholes_after, floats_after, template_text};
 
 use std::slice::Iter;
 use text_buffer::Text;
@@ -43,7 +43,7 @@ fn mark(out: &mut Text<'_>, c: u8, wholes: &mut Iter<'_, u64>, floats: &mut Iter
 // The template with the numbers in the place of its marks, each taken once, in order; `?` where none is left.
 #[tactic(auto, using(crate::proofs::Lines::filling))]
 pub fn fill(out: &mut Text<'_>, template: &[u8], wholes: &[u64], floats: &[f64])
-    ensures { out.new ≡ wrote out.old (filled template.now wholes.now floats.now) }
+    ensures { out.new ≡ wrote out.old (template_text template.now wholes.now floats.now) }
 {
     let mut wholes = wholes.iter();
     let mut floats = floats.iter();
