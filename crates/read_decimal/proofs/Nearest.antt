@@ -11,7 +11,7 @@ use lib.Ieee.Fits.{down_pos}
 use lib.Ieee.Scale.{round_same}
 use Rattle.math.specs.Basic.{mul, div}
 use Rattle.read_decimal.specs.Scan.{limit}
-use Rattle.read_decimal.specs.Decimal.{is_decimal, is_negative, mantissa_of, written_of, up_of, down_of, signed, tens, scaled_of, number_of, decimal_of}
+use Rattle.read_decimal.specs.Decimal.{is_decimal, is_negative, mantissa_of, written_power, up_of, down_of, signed_float, exact_power, scaled_of, decimal_number, decimal_float}
 use Rattle.read_decimal.specs.declared.DecimalError.{DecimalError}
 
 -- ---- the digits and the power of ten are exact
@@ -21,8 +21,8 @@ neg_value nan a c h = h
 neg_value (inf t) a c h = h
 neg_value (fin t m e) a c h = (ap not h.0, h.1)
 
-signed_value : (s : Bool) (m : ℕ) → m ≤ 2 ^ 53 → HasValue (signed s m) s m 1
-unfolding signed of_int
+signed_value : (s : Bool) (m : ℕ) → m ≤ 2 ^ 53 → HasValue (signed_float s m) s m 1
+unfolding signed_float of_int
 signed_value true m h = neg_value (round binary64 false m 1) m 1 (round_whole binary64 false m h)
 signed_value false m h = round_whole binary64 false m h
 
@@ -37,9 +37,9 @@ five_small k h = lt_of_le_of_lt (pow-le-pow_right {n = 5} (zero-lt-suc 4) h) (li
 room : (k : ℕ) → k ≤ 22 → 53 + (k + 1074) ≤ 2098
 room k h = omega arith
 
-tens_value : (k : ℕ) → k ≤ 22 → HasValue (tens k) false (10 ^ k) 1
-unfolding tens of_int
-tens_value k h =
+power_value : (k : ℕ) → k ≤ 22 → HasValue (exact_power k) false (10 ^ k) 1
+unfolding exact_power of_int
+power_value k h =
     round_exact binary64 false (10 ^ k) 1 (5 ^ k) (k + 1074) (zero-lt-suc 0) (five_small k h)
     (lt_of_lt_of_le (shl_lt 53 (k + 1074) (five_small k h)) (pow_mono (room k h)))
     (ap (λ (x : ℕ). x * 2 ^ 1074) (ten_is k) ∙ mul_assoc (5 ^ k) (2 ^ k) (2 ^ 1074) ∙ ap (λ (x : ℕ). 5 ^ k * x) (sym (pow-add 2 k 1074)) ∙ sym (mul-one (5 ^ k * 2 ^ (k + 1074))))
@@ -99,17 +99,17 @@ module _ (s : Bool) (m up down : ℕ) (small : m < limit) where
   few : m ≤ 2 ^ 53
   few = omega arith
 
-  times : down ≤ up → up - down ≤ 22 → mul (signed s m) (tens (up - down)) ≡ rounded
+  times : down ≤ up → up - down ≤ 22 → mul (signed_float s m) (exact_power (up - down)) ≡ rounded
   times h k =
-      product (signed s m) (tens (up - down)) s m (10 ^ (up - down)) (signed_value s m few) (tens_value (up - down) k)
+      product (signed_float s m) (exact_power (up - down)) s m (10 ^ (up - down)) (signed_value s m few) (power_value (up - down) k)
       ∙ round_same binary64 s (m * 10 ^ (up - down)) 1 (m * 10 ^ up) (10 ^ down) (zero-lt-suc 0) (ten_pos down)
       (mul_assoc m (10 ^ (up - down)) (10 ^ down)
       ∙ ap (λ (z : ℕ). m * z) (sym (pow-add 10 (up - down) down) ∙ ap (λ (z : ℕ). 10 ^ z) (back up down h))
       ∙ sym (mul-one (m * 10 ^ up)))
 
-  over : up ≤ down → down - up ≤ 22 → div (signed s m) (tens (down - up)) ≡ rounded
+  over : up ≤ down → down - up ≤ 22 → div (signed_float s m) (exact_power (down - up)) ≡ rounded
   over h k =
-      quotient (signed s m) (tens (down - up)) s m (10 ^ (down - up)) (ten_pos (down - up)) (signed_value s m few) (tens_value (down - up) k)
+      quotient (signed_float s m) (exact_power (down - up)) s m (10 ^ (down - up)) (ten_pos (down - up)) (signed_value s m few) (power_value (down - up) k)
       ∙ round_same binary64 s m (10 ^ (down - up)) (m * 10 ^ up) (10 ^ down) (ten_pos (down - up)) (ten_pos down)
       (ap (λ (z : ℕ). m * z) (ap (λ (z : ℕ). 10 ^ z) (sym (back down up h)) ∙ pow-add 10 (down - up) up ∙ mul_comm (10 ^ (down - up)) (10 ^ up))
       ∙ sym (mul_assoc m (10 ^ up) (10 ^ (down - up))))
@@ -119,17 +119,17 @@ module _ (s : Bool) (m up down : ℕ) (small : m < limit) where
   scaled_nearest x = go (leb down up) refl (leb (up - down) 22) refl (leb (down - up) 22) refl
     where
       go : (b : Bool) → leb down up ≡ b → (d : Bool) → leb (up - down) 22 ≡ d → (f : Bool) → leb (down - up) 22 ≡ f
-          → cond b (cond d (Ok (mul (signed s m) (tens (up - down)))) (Err DecimalError.PowerOutOfRange)) (cond f (Ok (div (signed s m) (tens (down - up)))) (Err DecimalError.PowerOutOfRange)) ≡ Ok x
+          → cond b (cond d (Ok (mul (signed_float s m) (exact_power (up - down)))) (Err DecimalError.PowerOutOfRange)) (cond f (Ok (div (signed_float s m) (exact_power (down - up)))) (Err DecimalError.PowerOutOfRange)) ≡ Ok x
           → x ≡ rounded
-      go true p true q f r e = let is : x ≡ mul (signed s m) (tens (up - down)) = cc in is ∙ times (leb-true down up p) (leb-true (up - down) 22 q)
+      go true p true q f r e = let is : x ≡ mul (signed_float s m) (exact_power (up - down)) = cc in is ∙ times (leb-true down up p) (leb-true (up - down) 22 q)
       go true p false q f r e = cc
-      go false p d q true r e = let is : x ≡ div (signed s m) (tens (down - up)) = cc in is ∙ over (le_of_lt (leb-false down up p)) (leb-true (down - up) 22 r)
+      go false p d q true r e = let is : x ≡ div (signed_float s m) (exact_power (down - up)) = cc in is ∙ over (le_of_lt (leb-false down up p)) (leb-true (down - up) 22 r)
       go false p d q false r e = cc
 
 -- every text that is taken: the float is mantissa_of * 10 ^ up_of / 10 ^ down_of, with its sign, rounded once
-pub decimal_nearest : (text : List ℕ) (x : Float) → decimal_of text ≡ Ok x → x ≡ round binary64 (is_negative text) (mantissa_of text * 10 ^ up_of text) (10 ^ down_of text)
-unfolding decimal_of number_of
-decimal_nearest text x = go (is_decimal text) (ltb (mantissa_of text) limit) refl (ltb (written_of text) limit)
+pub decimal_nearest : (text : List ℕ) (x : Float) → decimal_float text ≡ Ok x → x ≡ round binary64 (is_negative text) (mantissa_of text * 10 ^ up_of text) (10 ^ down_of text)
+unfolding decimal_float decimal_number
+decimal_nearest text x = go (is_decimal text) (ltb (mantissa_of text) limit) refl (ltb (written_power text) limit)
   where
     go : (a b : Bool) → ltb (mantissa_of text) limit ≡ b → (d : Bool)
         → cond a (cond b (cond d (scaled_of (is_negative text) (mantissa_of text) (up_of text) (down_of text)) (Err DecimalError.PowerOutOfRange)) (Err DecimalError.TooManyDigits)) (Err DecimalError.NotADecimal) ≡ Ok x

@@ -1,25 +1,25 @@
 -- Digits make a number no smaller, and one that was capped goes on as the number itself would. Assumes nothing.
 use Rattle.std.proofs.Common.{◌≡◌, ℕ, ◌+◌, ◌-◌, ◌*◌, ◌≤◌, Bool, true, false, leb, List, [], ◌∷◌, ◌++◌, refl, le_refl, arith, leb-true, leb-false, ap, sym, ◌∙◌}
-use Rattle.read_decimal.specs.Scan.{value_from, limit, capped}
+use Rattle.read_decimal.specs.Scan.{digits_value_from, limit, capped_value}
 
-pub grows : (n : ℕ) (w : List ℕ) → n ≤ value_from n w
-unfolding value_from
+pub grows : (n : ℕ) (w : List ℕ) → n ≤ digits_value_from n w
+unfolding digits_value_from
 grows n [] = le_refl n
-grows n (b ∷ w) = let r : n * 10 + (b - 48) ≤ value_from (n * 10 + (b - 48)) w = grows (n * 10 + (b - 48)) w in omega arith
+grows n (b ∷ w) = let r : n * 10 + (b - 48) ≤ digits_value_from (n * 10 + (b - 48)) w = grows (n * 10 + (b - 48)) w in omega arith
 
-pub value_append : (n : ℕ) (u w : List ℕ) → value_from n (u ++ w) ≡ value_from (value_from n u) w
-unfolding value_from
+pub value_append : (n : ℕ) (u w : List ℕ) → digits_value_from n (u ++ w) ≡ digits_value_from (digits_value_from n u) w
+unfolding digits_value_from
 value_append n [] w = refl
 value_append n (b ∷ u) w = value_append (n * 10 + (b - 48)) u w
 
-pub capped_from : (m : ℕ) (w : List ℕ) → capped (value_from (capped m) w) ≡ capped (value_from m w)
+pub capped_from : (m : ℕ) (w : List ℕ) → capped_value (digits_value_from (capped_value m) w) ≡ capped_value (digits_value_from m w)
 capped_from m w = go (leb m limit) refl
   where
-    go : (b : Bool) → leb m limit ≡ b → capped (value_from (capped m) w) ≡ capped (value_from m w)
-    go true e = let s : capped m ≡ m = omega (arith, leb-true m limit e) in rw s
+    go : (b : Bool) → leb m limit ≡ b → capped_value (digits_value_from (capped_value m) w) ≡ capped_value (digits_value_from m w)
+    go true e = let s : capped_value m ≡ m = omega (arith, leb-true m limit e) in rw s
     go false e =
-        let s : capped m ≡ limit = omega (arith, leb-false m limit e) in
+        let s : capped_value m ≡ limit = omega (arith, leb-false m limit e) in
         rw s (omega (arith, leb-false m limit e, grows limit w, grows m w))
 
-pub capped_more : (n : ℕ) (u w : List ℕ) → capped (value_from (capped (value_from n u)) w) ≡ capped (value_from n (u ++ w))
-capped_more n u w = capped_from (value_from n u) w ∙ ap capped (sym (value_append n u w))
+pub capped_more : (n : ℕ) (u w : List ℕ) → capped_value (digits_value_from (capped_value (digits_value_from n u)) w) ≡ capped_value (digits_value_from n (u ++ w))
+capped_more n u w = capped_from (digits_value_from n u) w ∙ ap capped_value (sym (value_append n u w))

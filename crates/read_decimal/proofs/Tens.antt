@@ -5,7 +5,7 @@ use lib.Ieee.Bits.{of_bits-to_bits}
 use lib.Ieee.Fits.{of_int-fits, and_l, and_r}
 use Rattle.math.specs.Basic.{bits}
 use Rattle.math.specs.Words.{pattern}
-use Rattle.read_decimal.specs.Decimal.{tens}
+use Rattle.read_decimal.specs.Decimal.{exact_power}
 
 -- TENS
 abbrev pub table : List Float
@@ -37,27 +37,27 @@ table =
 
 unfoldable test : ℕ → List Float → Bool
 test j [] = true
-test j (x ∷ xs) = fits binary64 x && eqb (pattern x) (pattern (tens j)) && test (suc j) xs
+test j (x ∷ xs) = fits binary64 x && eqb (pattern x) (pattern (exact_power j)) && test (suc j) xs
 
-tens_fits : (k : ℕ) → T (fits binary64 (tens k))
-unfolding tens
-tens_fits k = of_int-fits binary64 _
+power_fits : (k : ℕ) → T (fits binary64 (exact_power k))
+unfolding exact_power
+power_fits k = of_int-fits binary64 _
 
-right : (j : ℕ) (l : List Float) → T (test j l) → (i : ℕ) → i < length l → get_or l i nan ≡ tens (j + i)
+right : (j : ℕ) (l : List Float) → T (test j l) → (i : ℕ) → i < length l → get_or l i nan ≡ exact_power (j + i)
 unfolding test
 right j [] t i h = absurd (not-suc-le-zero h)
 right j (x ∷ xs) t zero h =
     let A = fits binary64 x in
-    let B = eqb (pattern x) (pattern (tens j)) in
+    let B = eqb (pattern x) (pattern (exact_power j)) in
     let g : T (A && B) = and_l (A && B) (test (suc j) xs) t in
-    sym (of_bits-to_bits binary64 x (and_l A B g)) ∙ ap bits (eqb→eq (pattern x) (pattern (tens j)) (and_r A B g)) ∙ of_bits-to_bits binary64 (tens j) (tens_fits j) ∙ ap tens (sym (add-zero j))
+    sym (of_bits-to_bits binary64 x (and_l A B g)) ∙ ap bits (eqb→eq (pattern x) (pattern (exact_power j)) (and_r A B g)) ∙ of_bits-to_bits binary64 (exact_power j) (power_fits j) ∙ ap exact_power (sym (add-zero j))
 right j (x ∷ xs) t (suc i) h =
-    right (suc j) xs (and_r (fits binary64 x && eqb (pattern x) (pattern (tens j))) (test (suc j) xs) t) i (le_of_suc-le-suc h)
-    ∙ ap tens (suc-add j i ∙ sym (add-suc j i))
+    right (suc j) xs (and_r (fits binary64 x && eqb (pattern x) (pattern (exact_power j))) (test (suc j) xs) t) i (le_of_suc-le-suc h)
+    ∙ ap exact_power (suc-add j i ∙ sym (add-suc j i))
 
 table_passes : T (test 0 table)
-unfolding test tens fits of_bits to_bits round of_int
+unfolding test exact_power fits of_bits to_bits round of_int
 table_passes = tt
 
-pub table_right : (k : ℕ) → k ≤ 22 → get_or table k nan ≡ tens k
-table_right k h = right 0 table table_passes k (omega arith) ∙ ap tens (omega arith)
+pub table_right : (k : ℕ) → k ≤ 22 → get_or table k nan ≡ exact_power k
+table_right k h = right 0 table table_passes k (omega arith) ∙ ap exact_power (omega arith)

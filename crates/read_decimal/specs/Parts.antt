@@ -1,7 +1,7 @@
 -- What the two parts of the reader hand on.
 use Rattle.std.specs.Prelude.{ℕ, ◌+◌, Bool, cond, List, ℤ, pos, neg_ℤ, int_lt, unsigned_abs, nat_le, nat_lt, Float, Result, Ok, Err}
-use Rattle.read_decimal.specs.Scan.{capped, limit}
-use Rattle.read_decimal.specs.Decimal.{has_digit, ends_right, is_negative, is_small, mantissa_of, places_of, written_of, fraction_end, scaled_of, tens}
+use Rattle.read_decimal.specs.Scan.{capped_value, limit}
+use Rattle.read_decimal.specs.Decimal.{has_digit, ends_right, is_negative, is_power_negative, mantissa_of, places_of, written_power, fraction_end, scaled_of, exact_power}
 use Rattle.read_decimal.specs.declared.DecimalError.{DecimalError}
 use Rattle.read_decimal.specs.declared.parts.Mantissa.{Mantissa}
 
@@ -9,7 +9,7 @@ use Rattle.read_decimal.specs.declared.parts.Mantissa.{Mantissa}
 unfoldable pub read_mantissa : List ℕ → Result Mantissa DecimalError
 read_mantissa text =
     cond (has_digit text)
-    (Ok (record { negative = is_negative text; digits = capped (mantissa_of text); places = places_of text; end = fraction_end text }))
+    (Ok (record { negative = is_negative text; digits = capped_value (mantissa_of text); places = places_of text; end = fraction_end text }))
     (Err DecimalError.NotADecimal)
 
 -- the power of ten, where the text ends right
@@ -17,9 +17,9 @@ unfoldable pub power_from : Bool → ℕ → ℤ
 power_from negative size = cond negative (neg_ℤ (pos size)) (pos size)
 
 unfoldable pub read_power : List ℕ → Result ℤ DecimalError
-read_power text = cond (ends_right text) (Ok (power_from (is_small text) (capped (written_of text)))) (Err DecimalError.NotADecimal)
+read_power text = cond (ends_right text) (Ok (power_from (is_power_negative text) (capped_value (written_power text)))) (Err DecimalError.NotADecimal)
 
--- `number_of` over what was read
+-- `decimal_number` over what was read
 unfoldable pub numbered_of : Mantissa → ℤ → Result Float DecimalError
 numbered_of m p =
     cond (nat_lt m.digits limit)
@@ -29,5 +29,5 @@ numbered_of m p =
     (Err DecimalError.TooManyDigits)
 
 -- 10 ^ k, where it is a float without rounding
-abbrev pub power_of : ℕ → Result Float DecimalError
-power_of k = cond (nat_le k 22) (Ok (tens k)) (Err DecimalError.PowerOutOfRange)
+abbrev pub power_in_range : ℕ → Result Float DecimalError
+power_in_range k = cond (nat_le k 22) (Ok (exact_power k)) (Err DecimalError.PowerOutOfRange)

@@ -2,12 +2,12 @@
 use Rattle.std.specs.Prelude.{ℕ, ◌+◌, ◌-◌, ◌*◌, Bool, cond, ◌&&◌, ◌||◌, List, [], ◌∷◌, length, drop, take_while, ◌==◌, nat_le, nat_lt, min, slice_index}
 
 -- the byte b stands at a place
-unfoldable pub is : ℕ → List ℕ → ℕ → Bool
-is b text at = nat_lt at (length text) && slice_index text at == b
+unfoldable pub stands : ℕ → List ℕ → ℕ → Bool
+stands b text at = nat_lt at (length text) && slice_index text at == b
 
 -- the place after a byte that is a or b, and the same place where neither stands there
-unfoldable pub after : ℕ → ℕ → List ℕ → ℕ → ℕ
-after a b text at = cond (is a text at || is b text at) (at + 1) at
+unfoldable pub past_either : ℕ → ℕ → List ℕ → ℕ → ℕ
+past_either a b text at = cond (stands a text at || stands b text at) (at + 1) at
 
 -- `0` to `9`
 abbrev pub is_digit : ℕ → Bool
@@ -18,16 +18,16 @@ unfoldable pub digits_end : List ℕ → ℕ → ℕ
 digits_end text at = at + length (take_while is_digit (drop at text))
 
 -- digits as a number, the most significant first, after those that make n
-unfoldable pub value_from : ℕ → List ℕ → ℕ
-value_from n [] = n
-value_from n (b ∷ w) = value_from (n * 10 + (b - 48)) w
+unfoldable pub digits_value_from : ℕ → List ℕ → ℕ
+digits_value_from n [] = n
+digits_value_from n (b ∷ w) = digits_value_from (n * 10 + (b - 48)) w
 
-abbrev pub value : List ℕ → ℕ
-value w = value_from 0 w
+abbrev pub digits_value : List ℕ → ℕ
+digits_value w = digits_value_from 0 w
 
 -- 10 ^ 15, the least number of 16 digits; a number, or that where it is less
 abbrev pub limit : ℕ
 limit = 1000000000000000
 
-abbrev pub capped : ℕ → ℕ
-capped n = min n limit
+abbrev pub capped_value : ℕ → ℕ
+capped_value n = min n limit

@@ -8,7 +8,7 @@ pub mod scale;
 pub mod scan;
 
 ghost use Rattle.std.specs.Prelude.{◌≡◌, ◌^◌, ◌<◌};
-ghost use Rattle.read_decimal.specs.Decimal.{decimal_of, error_number};
+ghost use Rattle.read_decimal.specs.Decimal.{decimal_float, error_number};
 ghost use Rattle.read_decimal.specs.Parts.{numbered_of};
 
 use crate::parts::{Mantissa, read_mantissa, read_power};
@@ -33,9 +33,9 @@ impl DecimalError {
 }
 
 // The whole of `text` is the number.
-#[tactic(auto, using(crate::proofs::AnswerLaws::numbered_is), unfolding(crate::specs::Decimal::decimal_of, crate::specs::Decimal::is_decimal, crate::specs::Parts::read_mantissa, crate::specs::Parts::read_power))]
+#[tactic(auto, using(crate::proofs::AnswerLaws::numbered_is), unfolding(crate::specs::Decimal::decimal_float, crate::specs::Decimal::is_decimal, crate::specs::Parts::read_mantissa, crate::specs::Parts::read_power))]
 pub fn read_decimal(text: &[u8]) -> Result<f64, DecimalError>
-    ensures { result ≡ decimal_of text.now }
+    ensures { result ≡ decimal_float text.now }
 {
     let mantissa = read_mantissa(text)?;
     let power = read_power(text, mantissa.end)?;

@@ -40,7 +40,7 @@ pub fn read_mantissa(text: &[u8]) -> Result<Mantissa, DecimalError>
 }
 
 // What follows the digits, from `end` on: nothing, which is the power 0, or a power that has a digit, of a size of at most 10^15.
-#[tactic(auto, unfolding(crate::specs::Parts::read_power, crate::specs::Parts::power_from, crate::specs::Decimal::ends_right, crate::specs::Decimal::is_small, crate::specs::Decimal::written_of, crate::specs::Decimal::power_end, crate::specs::Decimal::power_digits_at, crate::specs::Decimal::power_at))]
+#[tactic(auto, unfolding(crate::specs::Parts::read_power, crate::specs::Parts::power_from, crate::specs::Decimal::ends_right, crate::specs::Decimal::is_power_negative, crate::specs::Decimal::written_power, crate::specs::Decimal::power_end, crate::specs::Decimal::power_digits_at, crate::specs::Decimal::power_at))]
 pub fn read_power(text: &[u8], end: usize) -> Result<i64, DecimalError>
     requires end_value { end ≡ fraction_end text.now }
     requires end_in_bounds { end ≤ length text.now }

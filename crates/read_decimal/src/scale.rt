@@ -1,7 +1,7 @@
 // A whole number times or over a power of ten, rounded once.
 ghost use Rattle.std.specs.Prelude.{◌≡◌};
-ghost use Rattle.read_decimal.specs.Decimal.{signed, scaled_of};
-ghost use Rattle.read_decimal.specs.Parts.{power_of};
+ghost use Rattle.read_decimal.specs.Decimal.{signed_float, scaled_of};
+ghost use Rattle.read_decimal.specs.Parts.{power_in_range};
 
 use crate::DecimalError;
 
@@ -13,16 +13,16 @@ const TENS: [f64; 23] = [
 
 #[tactic(auto, using(crate::proofs::Tens::table_right))]
 fn power_of_ten(k: u64) -> Result<f64, DecimalError>
-    ensures { result ≡ power_of k }
+    ensures { result ≡ power_in_range k }
 {
     TENS.get(k as usize)
         .copied()
         .ok_or(DecimalError::PowerOutOfRange)
 }
 
-#[tactic(auto, unfolding(crate::specs::Decimal::signed))]
+#[tactic(auto, unfolding(crate::specs::Decimal::signed_float))]
 fn with_sign(negative: bool, m: u64) -> f64
-    ensures { result ≡ signed negative m }
+    ensures { result ≡ signed_float negative m }
 {
     let x = std::num::nearest_u64_to_f64(m);
     if negative { -x } else { x }

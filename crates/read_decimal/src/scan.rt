@@ -1,22 +1,22 @@
 // Places in a text: past a byte, past a run of digits, and the number that digits say.
 ghost use Rattle.std.specs.Prelude.{◌≡◌, ◌≤◌, ◌-◌, drop, length, take_while};
-ghost use Rattle.read_decimal.specs.Scan.{is, after, is_digit, digits_end, value_from, capped};
+ghost use Rattle.read_decimal.specs.Scan.{stands, past_either, is_digit, digits_end, digits_value_from, capped_value};
 
 // 10^15, the least number of 16 digits.
 pub const LIMIT: u64 = 1_000_000_000_000_000;
 
 // Whether the byte b stands at `at`.
-#[tactic(auto, unfolding(crate::specs::Scan::is))]
+#[tactic(auto, unfolding(crate::specs::Scan::stands))]
 pub fn stands(text: &[u8], at: usize, b: u8) -> bool
-    ensures { result ≡ is b text.now at }
+    ensures { result ≡ stands b text.now at }
 {
     text.get(at) == Some(&b)
 }
 
 // The place after the byte at `at` if that is a or b, else `at`.
-#[tactic(auto, unfolding(crate::specs::Scan::is, crate::specs::Scan::after))]
+#[tactic(auto, unfolding(crate::specs::Scan::stands, crate::specs::Scan::past_either))]
 pub fn past(text: &[u8], at: usize, a: u8, b: u8) -> usize
-    ensures value { result ≡ after a b text.now at }
+    ensures value { result ≡ past_either a b text.now at }
     ensures lower_bound { (at ≤ result) × (at ≤ length text.now → result ≤ length text.now) }
 {
     if stands(text, at, a) || stands(text, at, b) {
@@ -47,9 +47,9 @@ pub fn digits_end(text: &[u8], at: usize) -> usize
 }
 
 // The digits as a number after those that make n, and 10^15 where that is less.
-#[tactic(auto, using(crate::proofs::NumberLaws::capped_from), unfolding(crate::specs::Scan::value_from))]
+#[tactic(auto, using(crate::proofs::NumberLaws::capped_from), unfolding(crate::specs::Scan::digits_value_from))]
 pub fn number(digits: &[u8], n: u64) -> u64
-    ensures { result ≡ capped (value_from n digits.now) }
+    ensures { result ≡ capped_value (digits_value_from n digits.now) }
 {
     let mut m = n.min(LIMIT);
     for b in digits {

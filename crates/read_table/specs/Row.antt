@@ -2,7 +2,7 @@
 use Rattle.std.specs.Prelude.{ℕ, ◌+◌, ◌-◌, ◌≤◌, Bool, not, ◌&&◌, ◌||◌, cond, List, ◌==◌, nat_le, nat_lt, length, Float, Option, Some, None, Result, Ok, Err}
 use Rattle.std.specs.List.{list_all, list_any}
 use Rattle.math.specs.Parts.{part}
-use Rattle.read_decimal.specs.Decimal.{decimal_of}
+use Rattle.read_decimal.specs.Decimal.{decimal_float}
 use Rattle.read_decimal.specs.declared.DecimalError.{DecimalError}
 use Rattle.text_buffer.specs.declared.Span.{Span}
 use Rattle.read_table.specs.Classes.{is_name_byte, meets, scan_of}
@@ -74,7 +74,7 @@ told_number no_decimal (Err e) = Err (told_of no_decimal e)
 
 -- the decimal that a field's bytes are
 abbrev pub number_from : TableFault → List ℕ → Span → Result Float TableFault
-number_from no_decimal line field = told_number no_decimal (decimal_of (bytes_of line field))
+number_from no_decimal line field = told_number no_decimal (decimal_float (bytes_of line field))
 
 -- the dose's fault, then the grams', then that there is no name
 abbrev pub reading_from : Result Float TableFault → Result Float TableFault → Bool → Span → Result Reading TableFault

@@ -2,7 +2,7 @@
 ghost use Rattle.std.specs.Prelude.{◌≡◌, ◌≤◌, ◌<◌, ◌+◌, IfSome, IfOk, length};
 ghost use Rattle.std.specs.List.{list_all};
 ghost use Rattle.read_table.specs.Classes.{is_name_byte};
-ghost use Rattle.read_decimal.specs.Decimal.{decimal_of};
+ghost use Rattle.read_decimal.specs.Decimal.{decimal_float};
 ghost use Rattle.read_table.specs.Row.{Within, closing_of, word_of, next_of, field_of, named_of, comma_in, decimal_comma, told_of, told_number, number_from, reading_of, row_of};
 
 use crate::classes::{Stop, is_name_byte, met, scan};
@@ -136,7 +136,7 @@ fn told(error: DecimalError, no_decimal: TableFault) -> TableFault
 }
 
 fn read_number(field: &[u8], no_decimal: TableFault) -> Result<f64, TableFault>
-    ensures { result ≡ told_number no_decimal (decimal_of field.now) }
+    ensures { result ≡ told_number no_decimal (decimal_float field.now) }
 {
     read_decimal(field).map_err(|error| told(error, no_decimal))
 }

@@ -1,11 +1,11 @@
 -- A number that has reached the limit only grows. Assumes nothing.
 use Rattle.std.proofs.Common.{◌+◌, arith, add-one, drop, drop-cons}
-use Rattle.read_decimal.specs.Scan.{value_from}
+use Rattle.read_decimal.specs.Scan.{digits_value_from}
 use Rattle.read_decimal.proofs.NumberLaws.{capped_from}
 use Rattle.read_decimal.proofs.scan.number.Goals as goal
 
 pub loop-b-preserved : goal.loop-b-preserved
-unfolding value_from
+unfolding digits_value_from
 loop-b-preserved c =
     let i = c.loop-b.b-index in
     let w = c.args.digits.now in
