@@ -8,19 +8,19 @@ use Rattle.read_table.specs.declared.classes.Stop.{Stop}
 use Rattle.read_table.specs.declared.header.Column.{Column}
 
 -- five words each: those of a tinting machine, and of R's Orange, Loblolly and DNase
-abbrev pub words_of : Column → List (List ℕ)
-words_of Column.Dose = codes "dose" ∷ codes "doses" ∷ codes "steps" ∷ codes "age" ∷ codes "conc" ∷ []
-words_of Column.Grams = codes "grams" ∷ codes "weight" ∷ codes "density" ∷ codes "height" ∷ codes "circumference" ∷ []
-words_of Column.Canister = codes "canister" ∷ codes "tree" ∷ codes "seed" ∷ codes "run" ∷ codes "group" ∷ []
+abbrev pub column_words : Column → List (List ℕ)
+column_words Column.Dose = codes "dose" ∷ codes "doses" ∷ codes "steps" ∷ codes "age" ∷ codes "conc" ∷ []
+column_words Column.Grams = codes "grams" ∷ codes "weight" ∷ codes "density" ∷ codes "height" ∷ codes "circumference" ∷ []
+column_words Column.Canister = codes "canister" ∷ codes "tree" ∷ codes "seed" ∷ codes "run" ∷ codes "group" ∷ []
 
 -- capitals and small letters alike
-unfoldable pub is_word_of : List ℕ → Column → Bool
-is_word_of word column = list_any (λ w. str_eq_ignore_ascii_case w word) (words_of column)
+unfoldable pub is_column_word : List ℕ → Column → Bool
+is_column_word word column = list_any (λ w. str_eq_ignore_ascii_case w word) (column_words column)
 
 -- the column that the letters from a place on name; none where they are no known word
-unfoldable pub column_of : List ℕ → ℕ → Option Column
-column_of line start =
-    find (is_word_of (part start (scan_of Stop.EndOfLetters line start - start) line)) (Column.Dose ∷ Column.Grams ∷ Column.Canister ∷ [])
+unfoldable pub column_at : List ℕ → ℕ → Option Column
+column_at line start =
+    find (is_column_word (part start (scan_of Stop.EndOfLetters line start - start) line)) (Column.Dose ∷ Column.Grams ∷ Column.Canister ∷ [])
 
 abbrev pub same_column : Column → Column → Bool
 same_column Column.Dose Column.Dose = true
@@ -34,8 +34,8 @@ fits_named None column = true
 fits_named (Some named) column = same_column named column
 
 unfoldable pub fits_column : List ℕ → ℕ → Column → Bool
-fits_column line start column = fits_named (column_of line start) column
+fits_column line start column = fits_named (column_at line start) column
 
-unfoldable pub in_order : List ℕ → ℕ → ℕ → ℕ → Bool
-in_order line dose grams canister =
+unfoldable pub columns_in_order : List ℕ → ℕ → ℕ → ℕ → Bool
+columns_in_order line dose grams canister =
     fits_column line dose Column.Dose && (fits_column line grams Column.Grams && fits_column line canister Column.Canister)

@@ -1,6 +1,6 @@
 // What a table of readings is refused for.
 ghost use Rattle.std.specs.Prelude.{◌≡◌};
-ghost use Rattle.read_table.specs.Faults.{number_of};
+ghost use Rattle.read_table.specs.Faults.{fault_number};
 
 #[derive(Clone, Copy, Debug, PartialEq, Eq)]
 pub enum TableFault {
@@ -20,7 +20,7 @@ pub enum TableFault {
 impl TableFault {
     // 1 to 11, in the order above.
     pub fn number(self) -> u64
-        ensures { result ≡ number_of self }
+        ensures { result ≡ fault_number self }
     {
         self as u64
     }

@@ -9,7 +9,7 @@ pub mod row;
 pub mod step;
 
 ghost use Rattle.std.specs.Prelude.{◌≡◌, length};
-ghost use Rattle.read_table.specs.Table.{after_mark, table_of, finish_of, lists, read_in, InBounds};
+ghost use Rattle.read_table.specs.Table.{after_mark, table_of, finish_of, table_lists, read_so_far, CountsInBounds};
 
 use crate::fault::TableFault;
 use crate::step::{Progress, next_line};
@@ -53,9 +53,9 @@ pub fn read_table(
     names: &mut [Span],
 ) -> Result<Table, TableError>
     ensures value { result ≡ finish_of (table_of text.now doses.old grams.old groups.old names.old) }
-    ensures lists_after { lists (read_in result) doses.new grams.new groups.new names.new
+    ensures lists_after { table_lists (read_so_far result) doses.new grams.new groups.new names.new
         ≡ (table_of text.now doses.old grams.old groups.old names.old).1.read }
-    ensures count_in_bounds { InBounds (lists (read_in result) doses.new grams.new groups.new names.new) }
+    ensures count_in_bounds { CountsInBounds (table_lists (read_so_far result) doses.new grams.new groups.new names.new) }
 {
     let mut p = Progress {
         at: after_mark(text),

@@ -3,11 +3,11 @@ ghost use Rattle.std.specs.Prelude.{◌≡◌, ◌≤◌, ◌<◌, ◌+◌, IfSo
 ghost use Rattle.std.specs.List.{list_all};
 ghost use Rattle.read_table.specs.Classes.{is_name_byte};
 ghost use Rattle.read_decimal.specs.Decimal.{decimal_float};
-ghost use Rattle.read_table.specs.Row.{Within, closing_of, word_of, next_of, field_of, named_of, comma_in, decimal_comma, told_of, told_number, number_from, reading_of, row_of};
+ghost use Rattle.read_table.specs.Row.{Within, closing_quote, word_at, next_field, field_at, is_canister_name, comma_in, decimal_comma, decimal_fault, number_or_fault, field_number, reading_in, row_at};
 
 use crate::classes::{Stop, is_name_byte, met, scan};
 use crate::fault::TableFault;
-use crate::header::in_order;
+use crate::header::columns_in_order;
 use read_decimal::{DecimalError, read_decimal};
 use text_buffer::Span;
 
@@ -46,9 +46,9 @@ pub struct Row {
 }
 
 // Where the quotes close that open at `at`.
-#[tactic(auto, unfolding(crate::specs::Row::closing_of))]
+#[tactic(auto, unfolding(crate::specs::Row::closing_quote))]
 fn closing(line: &[u8], at: usize) -> Option<usize>
-    ensures value { result ≡ closing_of line.now at }
+    ensures value { result ≡ closing_quote line.now at }
     ensures upper_bound { IfSome result (λ close. (at + 1 ≤ close) × (close < length line.now)) }
 {
     if met(line, at, Stop::Quote) {
@@ -60,9 +60,9 @@ fn closing(line: &[u8], at: usize) -> Option<usize>
     None
 }
 
-#[tactic(auto, unfolding(crate::specs::Row::word_of))]
+#[tactic(auto, unfolding(crate::specs::Row::word_at))]
 fn read_word(line: &[u8], at: usize) -> Word
-    ensures value { result ≡ word_of line.now at }
+    ensures value { result ≡ word_at line.now at }
     ensures inside { at ≤ length line.now → Within line.now result.bytes × (result.tail ≤ length line.now) }
 {
     match closing(line, at) {
@@ -84,9 +84,9 @@ fn read_word(line: &[u8], at: usize) -> Word
 }
 
 // The place of the next field, past a separator.
-#[tactic(auto, unfolding(crate::specs::Row::next_of))]
+#[tactic(auto, unfolding(crate::specs::Row::next_field))]
 fn next_field(line: &[u8], after: usize) -> usize
-    ensures value { result ≡ next_of line.now after }
+    ensures value { result ≡ next_field line.now after }
     ensures inside { after ≤ length line.now → result ≤ length line.now }
 {
     if met(line, after, Stop::Separator) {
@@ -96,9 +96,9 @@ fn next_field(line: &[u8], after: usize) -> usize
     }
 }
 
-#[tactic(auto, unfolding(crate::specs::Row::field_of))]
+#[tactic(auto, unfolding(crate::specs::Row::field_at))]
 fn read_field(line: &[u8], at: usize) -> Field
-    ensures value { result ≡ field_of line.now at }
+    ensures value { result ≡ field_at line.now at }
     ensures inside { at ≤ length line.now → Within line.now result.bytes × (result.next ≤ length line.now) }
 {
     let word = read_word(line, at);
@@ -117,16 +117,16 @@ fn are_name_bytes(bytes: &[u8]) -> bool
 }
 
 // Whether the bytes are a name: 1 to 32 of them, each one that a name may have.
-#[tactic(auto, unfolding(crate::specs::Row::named_of))]
+#[tactic(auto, unfolding(crate::specs::Row::is_canister_name))]
 fn named(name: &[u8]) -> bool
-    ensures { result ≡ named_of name.now }
+    ensures { result ≡ is_canister_name name.now }
 {
     !name.is_empty() && name.len() <= 32 && are_name_bytes(name)
 }
 
 // The fault of a number; `no_decimal` is the one of a field that is none.
 fn told(error: DecimalError, no_decimal: TableFault) -> TableFault
-    ensures { result ≡ told_of no_decimal error }
+    ensures { result ≡ decimal_fault no_decimal error }
 {
     match error {
         DecimalError::NotADecimal => no_decimal,
@@ -136,7 +136,7 @@ fn told(error: DecimalError, no_decimal: TableFault) -> TableFault
 }
 
 fn read_number(field: &[u8], no_decimal: TableFault) -> Result<f64, TableFault>
-    ensures { result ≡ told_number no_decimal (decimal_float field.now) }
+    ensures { result ≡ number_or_fault no_decimal (decimal_float field.now) }
 {
     read_decimal(field).map_err(|error| told(error, no_decimal))
 }
@@ -161,9 +161,9 @@ fn decimal_comma(line: &[u8], d: Field, g: Field) -> bool
 }
 
 // What three fields say.
-#[tactic(auto, using(crate::proofs::Spans::part_is_slice), unfolding(crate::specs::Row::reading_of))]
+#[tactic(auto, using(crate::proofs::Spans::part_is_slice), unfolding(crate::specs::Row::reading_in))]
 fn read_reading(line: &[u8], d: Field, g: Field, c: Field) -> Result<Reading, TableFault>
-    ensures value { result ≡ reading_of line.now d g c }
+    ensures value { result ≡ reading_in line.now d g c }
     ensures name { IfOk result (λ r. r.name ≡ c.bytes) }
 {
     if decimal_comma(line, d, g) {
@@ -186,9 +186,9 @@ fn read_reading(line: &[u8], d: Field, g: Field, c: Field) -> Result<Reading, Ta
 }
 
 // The line ends with `line`; it begins at `at`.
-#[tactic(auto, unfolding(crate::specs::Row::row_of))]
+#[tactic(auto, unfolding(crate::specs::Row::row_at))]
 pub fn read_row(line: &[u8], at: usize) -> Row
-    ensures value { result ≡ row_of line.now at }
+    ensures value { result ≡ row_at line.now at }
     ensures start_le_stop { at ≤ length line.now → IfOk result.reading (λ r. Within line.now r.name) }
 {
     let first = scan(line, at, Stop::EndOfSpaces);
@@ -198,7 +198,7 @@ pub fn read_row(line: &[u8], at: usize) -> Row
     Row {
         blank: first == line.len() || met(line, first, Stop::Comment),
         letters: met(line, d.bytes.start, Stop::Letter) && met(line, g.bytes.start, Stop::Letter),
-        ordered: in_order(line, d.bytes.start, g.bytes.start, c.bytes.start),
+        ordered: columns_in_order(line, d.bytes.start, g.bytes.start, c.bytes.start),
         reading: read_reading(line, d, g, c),
     }
 }

@@ -1,6 +1,6 @@
 // One line after the other: what a line says, and what it changes.
 ghost use Rattle.std.specs.Prelude.{◌≡◌, ◌≤◌, ◌<◌, ◌^◌, length};
-ghost use Rattle.read_table.specs.Table.{settled_of, lists, state, step_of, InBounds};
+ghost use Rattle.read_table.specs.Table.{settled_of, table_lists, table_state, next_line, CountsInBounds};
 
 use crate::Table;
 use crate::classes::{Stop, scan};
@@ -36,7 +36,7 @@ fn settled(row: Row, started: bool) -> Result<Option<Reading>, TableFault>
 }
 
 // The line at p's place.
-#[tactic(auto, unfolding(crate::specs::Table::step_of))]
+#[tactic(auto, unfolding(crate::specs::Table::next_line))]
 pub fn next_line(
     text: &[u8],
     p: &mut Progress,
@@ -46,10 +46,10 @@ pub fn next_line(
     names: &mut [Span],
 ) -> Result<(), TableFault>
     requires at_in_bounds { (p.old.at < length text.now) × (p.old.read.lines < 2 ^ 63) }
-    requires in_bounds { InBounds (lists p.old.read doses.old grams.old groups.old names.old) }
-    ensures value { (result, state p.new doses.new grams.new groups.new names.new)
-        ≡ step_of text.now (state p.old doses.old grams.old groups.old names.old) }
-    ensures in_bounds { InBounds (lists p.new.read doses.new grams.new groups.new names.new) }
+    requires in_bounds { CountsInBounds (table_lists p.old.read doses.old grams.old groups.old names.old) }
+    ensures value { (result, table_state p.new doses.new grams.new groups.new names.new)
+        ≡ next_line text.now (table_state p.old doses.old grams.old groups.old names.old) }
+    ensures in_bounds { CountsInBounds (table_lists p.new.read doses.new grams.new groups.new names.new) }
     ensures further { (p.old.at < p.new.at) × (p.old.read.lines ≤ p.old.at → p.new.read.lines ≤ p.new.at) }
 {
     let end = scan(text, p.at, Stop::Newline);
