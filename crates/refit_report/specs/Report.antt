@@ -5,7 +5,7 @@ use Rattle.math.specs.Sqrt.{sqrt_of}
 use Rattle.refusal.specs.Refusal.{number_of}
 use Rattle.text_buffer.specs.Text.{joined}
 use Rattle.text_lines.specs.Lines.{template_text}
-use Rattle.svg_axes.specs.Subject.{Shown}
+use Rattle.svg_axes.specs.Subject.{SubjectLists}
 use Rattle.refit_calculation.specs.declared.Answer.{Answer}
 use Rattle.refit_calculation.specs.declared.Refused.{Refused}
 use Rattle.refit_calculation.specs.declared.Step.{Step}
@@ -19,7 +19,7 @@ use Rattle.refit_tables.specs.Tables.{canisters_text, readings_text}
 
 -- ---- what was asked
 
-unfoldable pub asked_text : Shown → List ℕ
+unfoldable pub asked_text : SubjectLists → List ℕ
 asked_text s =
     joined (
     template_text (codes "Refit\n  readings      %n, of %n canisters\n  curve         ") (length s.doses ∷ length s.effects ∷ []) []
@@ -33,7 +33,7 @@ asked_text s =
 unfoldable pub quadrature_text : ℕ → List ℕ
 quadrature_text order = cond (ltb 1 order) (template_text (codes "  quadrature    order %n\n") (order ∷ []) []) []
 
-unfoldable pub beginning_text : Task → Shown → Bool → List ℕ
+unfoldable pub beginning_text : Task → SubjectLists → Bool → List ℕ
 beginning_text o s warned =
     joined (
     cond o.example
@@ -117,7 +117,7 @@ fit_text code place r =
 
 -- ---- the curve
 
-unfoldable pub curve_text : Shown → List ℕ
+unfoldable pub curve_text : SubjectLists → List ℕ
 curve_text s = joined (codes "\nThe curve of all canisters\n" ∷ values_text s.code s.values ∷ [])
 
 -- ---- the warnings, last, where a screen ends
@@ -175,10 +175,10 @@ begun_by Fit t = t
 unfoldable pub begun_text : ℕ → Bool → List Float → Refused → List ℕ
 begun_text code given starts e = begun_by e.step (starts_text code given e.adjusted starts)
 
-unfoldable pub without_text : Task → Shown → List Float → Refused → List ℕ
+unfoldable pub without_text : Task → SubjectLists → List Float → Refused → List ℕ
 without_text o s starts e =
     joined (beginning_text o s false ∷ begun_text s.code (is_some o.given) starts e ∷ refused_text e ∷ [])
 
-unfoldable pub report_text : Task → Shown → List Float → Result Answer Refused → List ℕ
+unfoldable pub report_text : Task → SubjectLists → List Float → Result Answer Refused → List ℕ
 report_text o s starts (Ok refit) = told_text o (record { shown = s; starts = starts; n_agq = o.settings.n_agq; refit = refit })
 report_text o s starts (Err e) = without_text o s starts e

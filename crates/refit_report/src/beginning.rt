@@ -1,7 +1,7 @@
 // What begins a report: where the readings are from and what was asked.
 ghost use Rattle.std.specs.Prelude.{◌≡◌, cond, []};
 ghost use Rattle.text_buffer.specs.Text.{wrote};
-ghost use Rattle.svg_axes.specs.Subject.{shown};
+ghost use Rattle.svg_axes.specs.Subject.{subject_lists};
 ghost use Rattle.refit_report.specs.Report.{asked_text, quadrature_text, beginning_text};
 
 use refit_options::options::Task;
@@ -27,7 +27,7 @@ pub fn either(out: &mut Text<'_>, is: bool, text: &[u8], other: &[u8])
 }
 
 fn asked(out: &mut Text<'_>, s: &Subject<'_>)
-    ensures { out.new ≡ wrote out.old (asked_text (shown s.now)) }
+    ensures { out.new ≡ wrote out.old (asked_text (subject_lists s.now)) }
 {
     let counts = [s.doses.len() as u64, s.effects.len() as u64];
     fill(
@@ -52,7 +52,7 @@ fn quadrature(out: &mut Text<'_>, order: u64)
 }
 
 pub fn beginning(out: &mut Text<'_>, o: &Task, s: &Subject<'_>, warned: bool)
-    ensures { out.new ≡ wrote out.old (beginning_text o.now (shown s.now) warned) }
+    ensures { out.new ≡ wrote out.old (beginning_text o.now (subject_lists s.now) warned) }
 {
     when(
         out,

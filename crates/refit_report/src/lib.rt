@@ -6,7 +6,7 @@ pub mod beginning;
 ghost use Rattle.std.specs.Prelude.{◌≡◌};
 ghost use Rattle.curves.specs.MeanFn.{code_of};
 ghost use Rattle.text_buffer.specs.Text.{wrote};
-ghost use Rattle.svg_axes.specs.Subject.{shown};
+ghost use Rattle.svg_axes.specs.Subject.{subject_lists};
 ghost use Rattle.refit_warnings.specs.Warnings.{results};
 ghost use Rattle.refit_report.specs.Report.{value_lines, values_text, note_text, starts_text, theta_text, spread_of, spread_text, converged_text, fit_text, curve_text, all_warnings, warnings_text, step_text, refused_text, results_text, told_text, begun_text, without_text, report_text};
 
@@ -129,7 +129,7 @@ fn fit_of(out: &mut Text<'_>, curve: Curve, place: usize, r: &Answer)
 }
 
 fn curve_of_all(out: &mut Text<'_>, s: &Subject<'_>)
-    ensures { out.new ≡ wrote out.old (curve_text (shown s.now)) }
+    ensures { out.new ≡ wrote out.old (curve_text (subject_lists s.now)) }
 {
     out.put(b"\nThe curve of all canisters\n");
     values_of(out, s.curve, s.values);
@@ -217,7 +217,7 @@ fn begun(out: &mut Text<'_>, curve: Curve, given: bool, starts: &[f64], e: Refus
 
 #[tactic(auto, using(text_buffer::specs::laws::Text::writing), unfolding(crate::specs::Report::without_text))]
 fn without(out: &mut Text<'_>, o: &Task, r: &Outcome<'_>, e: Refused)
-    ensures { out.new ≡ wrote out.old (without_text o.now (shown r.now.subject) r.now.starts.now e) }
+    ensures { out.new ≡ wrote out.old (without_text o.now (subject_lists r.now.subject) r.now.starts.now e) }
 {
     let s = &r.subject;
     beginning(out, o, s, false);
@@ -227,7 +227,7 @@ fn without(out: &mut Text<'_>, o: &Task, r: &Outcome<'_>, e: Refused)
 
 #[tactic(auto, unfolding(crate::specs::Report::report_text))]
 pub fn report(out: &mut Text<'_>, o: &Task, r: &Outcome<'_>)
-    ensures { out.new ≡ wrote out.old (report_text o.now (shown r.now.subject) r.now.starts.now r.now.answer) }
+    ensures { out.new ≡ wrote out.old (report_text o.now (subject_lists r.now.subject) r.now.starts.now r.now.answer) }
 {
     match r.answer {
         Ok(refit) => told(out, o, &r.found(o.settings.n_agq, refit)),

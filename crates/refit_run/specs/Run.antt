@@ -5,7 +5,7 @@ use Rattle.curves.specs.MeanFn.{code_of, n_params_of}
 use Rattle.text_buffer.specs.declared.Span.{Span}
 use Rattle.text_buffer.specs.Text.{Written, wrote}
 use Rattle.read_table.specs.declared.fault.TableFault.{TableFault}
-use Rattle.svg_axes.specs.Subject.{Shown}
+use Rattle.svg_axes.specs.Subject.{SubjectLists}
 use Rattle.svg_picture.specs.Picture.{picture_text}
 use Rattle.refit_calculation.specs.declared.Answer.{Answer}
 use Rattle.refit_calculation.specs.declared.Refused.{Refused}
@@ -43,7 +43,7 @@ pub record InReach (r : Read) : Type 0 where
   pub few_canisters : r.canisters ≤ 32
 
 -- the picture, where one is asked for and there is a fit
-unfoldable pub picture_of : Task → Shown → List Float → Result Answer Refused → Written → Written
+unfoldable pub picture_of : Task → SubjectLists → List Float → Result Answer Refused → Written → Written
 picture_of o shown starts (Err e) svg = svg
 picture_of o shown starts (Ok refit) svg =
     cond o.picture
@@ -51,11 +51,11 @@ picture_of o shown starts (Ok refit) svg =
     svg
 
 -- the report and the picture of a refit
-abbrev pub told_of : Task → Shown → List Float → Result Answer Refused → Written → Written → Written × Written
+abbrev pub told_of : Task → SubjectLists → List Float → Result Answer Refused → Written → Written → Written × Written
 told_of o shown starts answer out svg = (wrote out (report_text o shown starts answer), picture_of o shown starts answer svg)
 
 -- what is shown of a refit
-abbrev pub shown_of : Task → Read → Refitted → Shown
+abbrev pub shown_of : Task → Read → Refitted → SubjectLists
 shown_of o r t =
     record {
       code = code_of o.settings.curve;

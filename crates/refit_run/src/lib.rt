@@ -8,7 +8,7 @@ pub mod readings;
 ghost use Rattle.std.specs.Prelude.{◌≡◌, ◌≤◌, IfOk, is_some};
 ghost use Rattle.curves.specs.MeanFn.{code_of, n_params_of};
 ghost use Rattle.refit_calculation.specs.Refit.{asked, refit_of};
-ghost use Rattle.svg_axes.specs.Subject.{shown};
+ghost use Rattle.svg_axes.specs.Subject.{subject_lists};
 ghost use Rattle.refit_run.specs.Run.{InReach, read, fault_of, picture_of, told_of, answered, run_of};
 
 use crate::readings::{CANISTERS, READINGS, Readings};
@@ -24,7 +24,7 @@ use text_buffer::Text;
 // The picture of a refit, where one is asked for and there is a fit.
 #[tactic(auto, unfolding(crate::specs::Run::picture_of))]
 fn picture(svg: &mut Text<'_>, o: &Task, r: &Outcome<'_>)
-    ensures { svg.new ≡ picture_of o.now (shown r.now.subject) r.now.starts.now r.now.answer svg.old }
+    ensures { svg.new ≡ picture_of o.now (subject_lists r.now.subject) r.now.starts.now r.now.answer svg.old }
 {
     if !o.picture {
         return;
@@ -48,7 +48,7 @@ fn told(
     out: &mut Text<'_>,
     svg: &mut Text<'_>,
 )
-    ensures { (out.new, svg.new) ≡ told_of o.now (shown subject.now) starts.now answer out.old svg.old }
+    ensures { (out.new, svg.new) ≡ told_of o.now (subject_lists subject.now) starts.now answer out.old svg.old }
 {
     let outcome = Outcome {
         subject: *subject,

@@ -7,14 +7,14 @@ use Rattle.math.specs.Lists.{largest_of}
 use Rattle.text_buffer.specs.Text.{joined}
 use Rattle.text_lines.specs.Lines.{left_text, cell_text}
 use Rattle.text_floats.specs.Floats.{decimals_of, fixed_text, figure_text}
-use Rattle.svg_axes.specs.Subject.{Shown, name_of}
-use Rattle.svg_axes.specs.Ranges.{curve_at}
+use Rattle.svg_axes.specs.Subject.{SubjectLists, canister_name}
+use Rattle.svg_axes.specs.Ranges.{canister_curve_at}
 use Rattle.svg_marks.specs.Escape.{each}
 
-unfoldable pub name_text : Shown → ℕ → List ℕ
-name_text s g = left_text 14 (name_of s g)
+unfoldable pub name_text : SubjectLists → ℕ → List ℕ
+name_text s g = left_text 14 (canister_name s g)
 
-unfoldable pub canister_text : Shown → ℕ → List ℕ
+unfoldable pub canister_text : SubjectLists → ℕ → List ℕ
 canister_text s g = joined (codes "  " ∷ name_text s g ∷ [])
 
 -- the decimals of a column whose numbers are about this size: six significant digits, or six decimals for what is very small
@@ -24,14 +24,14 @@ decimals_for size = cond (lt size (bits 0x3ee4_f8b5_88e3_68f1)) 6 (decimals_of s
 -- ---- each canister
 
 -- the canister's own value: where the effect stands, with it
-abbrev pub own_at : Shown → Float → Float → ℕ → List ℕ
+abbrev pub own_at : SubjectLists → Float → Float → ℕ → List ℕ
 own_at s effect value i = cell_text 13 (fixed_text (cond (eqb i s.place) (add value effect) value) (decimals_for (abs_of value)))
 
-unfoldable pub own_text : Shown → Float → ℕ → List ℕ
+unfoldable pub own_text : SubjectLists → Float → ℕ → List ℕ
 own_text s effect i = own_at s effect (get_or s.values i nan) i
 
 -- the row of canister g, whose effect this is
-unfoldable pub row_of : Shown → Float → ℕ → List ℕ
+unfoldable pub row_of : SubjectLists → Float → ℕ → List ℕ
 row_of s effect g =
     joined (
     canister_text s g
@@ -40,7 +40,7 @@ row_of s effect g =
     ∷ codes "\n"
     ∷ [])
 
-unfoldable pub canister_row : Shown → ℕ → List ℕ
+unfoldable pub canister_row : SubjectLists → ℕ → List ℕ
 canister_row s g = row_of s (get_or s.effects g nan) g
 
 -- what stands over the values of each curve, by its code, from 1
@@ -56,7 +56,7 @@ heads =
 abbrev pub heads_of : ℕ → List ℕ
 heads_of code = get_or heads code []
 
-unfoldable pub canisters_text : Shown → List ℕ
+unfoldable pub canisters_text : SubjectLists → List ℕ
 canisters_text s =
     joined (
     codes "\nEach canister's own curve\n  canister             effect"
@@ -68,11 +68,11 @@ canisters_text s =
 -- ---- each reading
 
 -- reading i, of canister g: what was weighed, what the curve says, and the difference
-unfoldable pub reading_row : Shown → ℕ → ℕ → ℕ → List ℕ
+unfoldable pub reading_row : SubjectLists → ℕ → ℕ → ℕ → List ℕ
 reading_row s d g i =
     let dose = get_or s.doses i nan in
     let grams = get_or s.grams i nan in
-    let says = curve_at s g dose in
+    let says = canister_curve_at s g dose in
     joined (
     canister_text s g
     ∷ cell_text 13 (figure_text dose)
@@ -82,10 +82,10 @@ reading_row s d g i =
     ∷ codes "\n"
     ∷ [])
 
-unfoldable pub reading_rows : Shown → ℕ → List ℕ
+unfoldable pub reading_rows : SubjectLists → ℕ → List ℕ
 reading_rows s d = each (λ i. reading_row s d (slice_index s.group i) i) (length s.group)
 
-unfoldable pub readings_text : Shown → List ℕ
+unfoldable pub readings_text : SubjectLists → List ℕ
 readings_text s =
     joined (
     codes "\nEach reading\n  canister               dose      weighed   curve says    difference\n"

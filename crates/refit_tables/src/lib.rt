@@ -4,7 +4,7 @@
 ghost use Rattle.std.specs.Prelude.{◌≡◌, length};
 ghost use Rattle.curves.specs.MeanFn.{code_of};
 ghost use Rattle.text_buffer.specs.Text.{wrote};
-ghost use Rattle.svg_axes.specs.Subject.{shown};
+ghost use Rattle.svg_axes.specs.Subject.{subject_lists};
 ghost use Rattle.svg_marks.specs.Escape.{each};
 ghost use Rattle.refit_tables.specs.Tables.{name_text, canister_text, decimals_for, own_at, own_text, row_of, canister_row, heads_of, canisters_text, reading_row, reading_rows, readings_text};
 
@@ -18,14 +18,14 @@ use text_lines::columns;
 // A canister's name, at the left of 14 places.
 #[tactic(auto, unfolding(crate::specs::Tables::name_text))]
 fn name(out: &mut Text<'_>, s: &Subject<'_>, g: usize)
-    ensures { out.new ≡ wrote out.old (name_text (shown s.now) g) }
+    ensures { out.new ≡ wrote out.old (name_text (subject_lists s.now) g) }
 {
     columns::left(out, 14, s.name(g));
 }
 
 #[tactic(auto, using(text_buffer::specs::laws::Text::writing), unfolding(crate::specs::Tables::canister_text))]
 fn canister(out: &mut Text<'_>, s: &Subject<'_>, g: usize)
-    ensures { out.new ≡ wrote out.old (canister_text (shown s.now) g) }
+    ensures { out.new ≡ wrote out.old (canister_text (subject_lists s.now) g) }
 {
     out.put(b"  ");
     name(out, s, g);
@@ -45,7 +45,7 @@ fn decimals_for(size: f64) -> u64
 
 // Value i of a canister: where the effect stands, with it.
 fn own_value(out: &mut Text<'_>, s: &Subject<'_>, effect: f64, value: f64, i: usize)
-    ensures { out.new ≡ wrote out.old (own_at (shown s.now) effect value i) }
+    ensures { out.new ≡ wrote out.old (own_at (subject_lists s.now) effect value i) }
 {
     let own = if i == s.place { value + effect } else { value };
     columns::fixed(out, 13, own, decimals_for(math::abs(value)));
@@ -54,7 +54,7 @@ fn own_value(out: &mut Text<'_>, s: &Subject<'_>, effect: f64, value: f64, i: us
 // A loop of one call, as of canister_rows and of svg_picture's canisters: each calls a function of its own.
 #[tactic(auto, using(svg_marks::proofs::Laws::running), unfolding(crate::specs::Tables::own_text))]
 fn own_values(out: &mut Text<'_>, s: &Subject<'_>, effect: f64)
-    ensures { out.new ≡ wrote out.old (each (own_text (shown s.now) effect) (length s.now.values.now)) }
+    ensures { out.new ≡ wrote out.old (each (own_text (subject_lists s.now) effect) (length s.now.values.now)) }
 {
     for (i, &value) in s.values.iter().enumerate() {
         own_value(out, s, effect, value, i);
@@ -63,7 +63,7 @@ fn own_values(out: &mut Text<'_>, s: &Subject<'_>, effect: f64)
 
 #[tactic(auto, using(text_buffer::specs::laws::Text::writing), unfolding(crate::specs::Tables::row_of))]
 fn canister_row(out: &mut Text<'_>, s: &Subject<'_>, effect: f64, g: usize)
-    ensures { out.new ≡ wrote out.old (row_of (shown s.now) effect g) }
+    ensures { out.new ≡ wrote out.old (row_of (subject_lists s.now) effect g) }
 {
     let d = decimals_for(math::abs(math::at(s.values, s.place)));
     canister(out, s, g);
@@ -74,7 +74,7 @@ fn canister_row(out: &mut Text<'_>, s: &Subject<'_>, effect: f64, g: usize)
 
 #[tactic(auto, using(svg_marks::proofs::Laws::running), unfolding(crate::specs::Tables::canister_row))]
 fn canister_rows(out: &mut Text<'_>, s: &Subject<'_>)
-    ensures { out.new ≡ wrote out.old (each (canister_row (shown s.now)) (length s.now.effects.now)) }
+    ensures { out.new ≡ wrote out.old (each (canister_row (subject_lists s.now)) (length s.now.effects.now)) }
 {
     for (g, &effect) in s.effects.iter().enumerate() {
         canister_row(out, s, effect, g);
@@ -94,7 +94,7 @@ fn heads(curve: Curve) -> &'static [u8]
 }
 
 pub fn canisters(out: &mut Text<'_>, s: &Subject<'_>)
-    ensures { out.new ≡ wrote out.old (canisters_text (shown s.now)) }
+    ensures { out.new ≡ wrote out.old (canisters_text (subject_lists s.now)) }
 {
     out.put(b"\nEach canister's own curve\n  canister             effect");
     out.put(heads(s.curve));
@@ -105,7 +105,7 @@ pub fn canisters(out: &mut Text<'_>, s: &Subject<'_>)
 // Reading i, of canister g: what was weighed, what the curve says, and the difference, with so many decimals.
 #[tactic(auto, using(text_buffer::specs::laws::Text::writing), unfolding(crate::specs::Tables::reading_row))]
 fn reading_row(out: &mut Text<'_>, s: &Subject<'_>, d: u64, g: usize, i: usize)
-    ensures { out.new ≡ wrote out.old (reading_row (shown s.now) d g i) }
+    ensures { out.new ≡ wrote out.old (reading_row (subject_lists s.now) d g i) }
 {
     let dose = math::at(s.doses, i);
     let grams = math::at(s.grams, i);
@@ -120,7 +120,7 @@ fn reading_row(out: &mut Text<'_>, s: &Subject<'_>, d: u64, g: usize, i: usize)
 
 #[tactic(auto, using(svg_marks::proofs::Laws::running), unfolding(crate::specs::Tables::reading_rows))]
 fn reading_rows(out: &mut Text<'_>, s: &Subject<'_>, d: u64)
-    ensures { out.new ≡ wrote out.old (reading_rows (shown s.now) d) }
+    ensures { out.new ≡ wrote out.old (reading_rows (subject_lists s.now) d) }
 {
     for (i, &g) in s.group.iter().enumerate() {
         reading_row(out, s, d, g, i);
@@ -128,7 +128,7 @@ fn reading_rows(out: &mut Text<'_>, s: &Subject<'_>, d: u64)
 }
 
 pub fn readings(out: &mut Text<'_>, s: &Subject<'_>)
-    ensures { out.new ≡ wrote out.old (readings_text (shown s.now)) }
+    ensures { out.new ≡ wrote out.old (readings_text (subject_lists s.now)) }
 {
     let d = decimals_for(math::largest(s.grams));
     out.put(

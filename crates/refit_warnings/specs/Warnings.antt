@@ -5,7 +5,7 @@ use Rattle.std.specs.Float.{nan}
 use Rattle.std.specs.Float.Ieee.{lt, eq}
 use Rattle.math.specs.Basic.{add, sub, mul, div, bits, zero, one}
 use Rattle.math.specs.Loops.{iter}
-use Rattle.svg_axes.specs.Subject.{Shown, shown}
+use Rattle.svg_axes.specs.Subject.{SubjectLists, subject_lists}
 use Rattle.refit_calculation.specs.declared.Answer.{Answer}
 use Rattle.refit_warnings.specs.declared.Sum.{Sum}
 use Rattle.refit_warnings.specs.declared.findings.Findings.{Findings}
@@ -15,7 +15,7 @@ use Rattle.refit_warnings.specs.declared.findings.Warning.TheVariants.{Unmoved, 
 
 -- Findings of the code, with their slices' lists
 pub record Results : Type 0 where
-  pub shown : Shown
+  pub shown : SubjectLists
   pub starts : List Float
   pub n_agq : ℕ
   pub refit : Answer
@@ -25,7 +25,7 @@ abbrev pub found_of : Outcome → ℕ → Answer → Findings
 found_of o n_agq refit = record { subject = o.subject; starts = o.starts; n_agq = n_agq; refit = refit }
 
 abbrev pub results : Findings → Results
-results f = record { shown = shown f.subject; starts = f.starts.now; n_agq = f.n_agq; refit = f.refit }
+results f = record { shown = subject_lists f.subject; starts = f.starts.now; n_agq = f.n_agq; refit = f.refit }
 
 -- ---- a constant for each canister, the mean of its grams
 

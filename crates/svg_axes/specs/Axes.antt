@@ -54,8 +54,8 @@ axis_of range =
     cond (is_finite raw) (with_step r (round_up (in_tens raw).mantissa) (in_tens raw)) None
 
 -- the place nearest to x between two; of a NaN the first
-unfoldable pub clamp_of : Float → Float → Float → Float
-clamp_of x from to = cond (lt to x) to (cond (lt from x) x from)
+unfoldable pub clamp_pixel : Float → Float → Float → Float
+clamp_pixel x from to = cond (lt to x) to (cond (lt from x) x from)
 
 -- 0 at the axis's first tick, 1 at its last
 unfoldable pub along_of : Axis → Float → Float
@@ -63,8 +63,8 @@ along_of a x = div (sub (div x a.step) a.first) (of_int binary64 (pos a.count))
 
 -- from 70 at the left to 670
 unfoldable pub x_pixel : Axis → Float → Float
-x_pixel a x = clamp_of (add (bits 0x4051_8000_0000_0000) (mul (along_of a x) (bits 0x4082_c000_0000_0000))) (bits 0x4051_8000_0000_0000) (bits 0x4084_f000_0000_0000)
+x_pixel a x = clamp_pixel (add (bits 0x4051_8000_0000_0000) (mul (along_of a x) (bits 0x4082_c000_0000_0000))) (bits 0x4051_8000_0000_0000) (bits 0x4084_f000_0000_0000)
 
 -- from 450 at the bottom up to 50
 unfoldable pub y_pixel : Axis → Float → Float
-y_pixel a x = clamp_of (sub (bits 0x407c_2000_0000_0000) (mul (along_of a x) (bits 0x4079_0000_0000_0000))) (bits 0x4049_0000_0000_0000) (bits 0x407c_2000_0000_0000)
+y_pixel a x = clamp_pixel (sub (bits 0x407c_2000_0000_0000) (mul (along_of a x) (bits 0x4079_0000_0000_0000))) (bits 0x4049_0000_0000_0000) (bits 0x407c_2000_0000_0000)

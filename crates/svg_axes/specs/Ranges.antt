@@ -6,11 +6,11 @@ use Rattle.math.specs.Basic.{add, sub, mul, div, bits, min_of, max_of, is_finite
 use Rattle.math.specs.Loops.{iter}
 use Rattle.curves.specs.MeanFn.{four_of, eval_with_re_of}
 use Rattle.svg_axes.specs.declared.ranges.Range.{Range}
-use Rattle.svg_axes.specs.Subject.{Shown}
+use Rattle.svg_axes.specs.Subject.{SubjectLists}
 
 -- the grams of the curve of canister g at a dose: its effect is added to the value at `place`
-unfoldable pub curve_at : Shown → ℕ → Float → Float
-curve_at s g dose =
+unfoldable pub canister_curve_at : SubjectLists → ℕ → Float → Float
+canister_curve_at s g dose =
     (eval_with_re_of s.code (four_of s.values) (s.place ∷ []) (slice_index_or s.effects g nan ∷ []) dose).mu
 
 -- the range of no number
@@ -29,8 +29,8 @@ unfoldable pub sample_of : Range → ℕ → Float
 sample_of r j = min_of (add r.lo (mul (div (of_int binary64 (pos j)) (bits 0x404e_0000_0000_0000)) (sub r.hi r.lo))) r.hi
 
 -- a range with a curve's grams at those doses, and with every canister's
-unfoldable pub with_curve : Shown → Range → ℕ → Range → Range
-with_curve s doses g grams = iter (λ j r. wider_by r (curve_at s g (sample_of doses j))) 61 grams
+unfoldable pub range_with_curve : SubjectLists → Range → ℕ → Range → Range
+range_with_curve s doses g grams = iter (λ j r. wider_by r (canister_curve_at s g (sample_of doses j))) 61 grams
 
-unfoldable pub with_curves : Shown → Range → Range → Range
-with_curves s doses grams = iter (with_curve s doses) (length s.effects) grams
+unfoldable pub range_with_curves : SubjectLists → Range → Range → Range
+range_with_curves s doses grams = iter (range_with_curve s doses) (length s.effects) grams

@@ -5,7 +5,7 @@ use Rattle.text_buffer.specs.declared.Span.{Span}
 use Rattle.curves.specs.MeanFn.{code_of}
 use Rattle.svg_axes.specs.declared.subject.Subject.{Subject}
 
-pub record Shown : Type 0 where
+pub record SubjectLists : Type 0 where
   pub code : ℕ
   pub place : ℕ
   pub doses : List Float
@@ -16,8 +16,8 @@ pub record Shown : Type 0 where
   pub values : List Float
   pub effects : List Float
 
-abbrev pub shown : Subject → Shown
-shown s = record {
+abbrev pub subject_lists : Subject → SubjectLists
+subject_lists s = record {
   code = code_of s.curve;
   place = s.place;
   doses = s.doses.now;
@@ -30,12 +30,12 @@ shown s = record {
 }
 
 -- canister g's name stands in the text; it is empty where there is none
-abbrev pub named : List ℕ → Option Span → List ℕ
-named text (Some span) = slice span.start span.stop text
-named text None = []
+abbrev pub name_in : List ℕ → Option Span → List ℕ
+name_in text (Some span) = slice span.start span.stop text
+name_in text None = []
 
-unfoldable pub name_of : Shown → ℕ → List ℕ
-name_of s g = named s.text (slice_get s.names g)
+unfoldable pub canister_name : SubjectLists → ℕ → List ℕ
+canister_name s g = name_in s.text (slice_get s.names g)
 
 -- a curve's name, by its code, from 1
 abbrev pub curve_name : ℕ → List ℕ

@@ -1,6 +1,6 @@
 // An axis with round steps, and where a value stands in the frame.
 ghost use Rattle.std.specs.Prelude.{◌≡◌};
-ghost use Rattle.svg_axes.specs.Axes.{ten_to, round_up, floor_of, widened_of, stepped_of, with_step, axis_of, clamp_of, along_of, x_pixel, y_pixel};
+ghost use Rattle.svg_axes.specs.Axes.{ten_to, round_up, floor_of, widened_of, stepped_of, with_step, axis_of, clamp_pixel, along_of, x_pixel, y_pixel};
 
 use crate::ranges::Range;
 use math::words::{to_float, to_int};
@@ -139,9 +139,9 @@ pub fn axis_of(range: Range) -> Option<Axis>
 }
 
 // The place nearest to x between from and to; unlike the `clamp` of `f64`, a NaN is at from.
-#[tactic(auto, unfolding(crate::specs::Axes::clamp_of))]
+#[tactic(auto, unfolding(crate::specs::Axes::clamp_pixel))]
 fn clamp(x: f64, from: f64, to: f64) -> f64
-    ensures { result ≡ clamp_of x from to }
+    ensures { result ≡ clamp_pixel x from to }
 {
     if to < x {
         to

@@ -1,7 +1,7 @@
 // The range of what is drawn.
 ghost use Rattle.std.specs.Prelude.{◌≡◌};
-ghost use Rattle.svg_axes.specs.Subject.{shown};
-ghost use Rattle.svg_axes.specs.Ranges.{no_range, wider_by, list_range, sample_of, with_curve, with_curves};
+ghost use Rattle.svg_axes.specs.Subject.{subject_lists};
+ghost use Rattle.svg_axes.specs.Ranges.{no_range, wider_by, list_range, sample_of, range_with_curve, range_with_curves};
 
 use crate::curve_at;
 use crate::subject::Subject;
@@ -58,9 +58,9 @@ pub fn sample(r: Range, j: u64) -> f64
     math::min(r.lo + t * (r.hi - r.lo), r.hi)
 }
 
-#[tactic(auto, using(math::specs::laws::Loops::iter_zero, math::specs::laws::Loops::iter_next), unfolding(crate::specs::Ranges::with_curve))]
+#[tactic(auto, using(math::specs::laws::Loops::iter_zero, math::specs::laws::Loops::iter_next), unfolding(crate::specs::Ranges::range_with_curve))]
 fn one_curve(grams: Range, s: &Subject<'_>, g: usize, doses: Range) -> Range
-    ensures { result ≡ with_curve (shown s.now) doses g grams }
+    ensures { result ≡ range_with_curve (subject_lists s.now) doses g grams }
 {
     let mut r = grams;
     for j in 0..SAMPLES {
@@ -70,9 +70,9 @@ fn one_curve(grams: Range, s: &Subject<'_>, g: usize, doses: Range) -> Range
 }
 
 // The range of the grams and of every canister's curve.
-#[tactic(auto, using(math::specs::laws::Loops::iter_zero, math::specs::laws::Loops::iter_next), unfolding(crate::specs::Ranges::with_curves))]
+#[tactic(auto, using(math::specs::laws::Loops::iter_zero, math::specs::laws::Loops::iter_next), unfolding(crate::specs::Ranges::range_with_curves))]
 pub fn all_curves(grams: Range, s: &Subject<'_>, doses: Range) -> Range
-    ensures { result ≡ with_curves (shown s.now) doses grams }
+    ensures { result ≡ range_with_curves (subject_lists s.now) doses grams }
 {
     let mut r = grams;
     for g in 0..s.effects.len() {

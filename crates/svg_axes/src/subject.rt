@@ -22,12 +22,12 @@ pub struct Subject<'a> {
 }
 
 impl<'a> Subject<'a> {
-    ghost use Rattle.svg_axes.specs.Subject.{shown, name_of};
+    ghost use Rattle.svg_axes.specs.Subject.{subject_lists, canister_name};
 
     // Canister g's name, empty where there is none.
-    #[tactic(auto, unfolding(crate::specs::Subject::name_of))]
+    #[tactic(auto, unfolding(crate::specs::Subject::canister_name))]
     pub fn name(&self, g: usize) -> &[u8]
-        ensures { result.now ≡ name_of (shown self.now) g }
+        ensures { result.now ≡ canister_name (subject_lists self.now) g }
     {
         match self.names.get(g) {
             Some(span) => span.of(self.text),

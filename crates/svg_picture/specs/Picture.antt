@@ -2,17 +2,17 @@
 use Rattle.std.specs.Prelude.{ℕ, Bool, List, [], ◌∷◌, ◌++◌, length, Option, Some, None, codes}
 use Rattle.text_buffer.specs.Text.{joined}
 use Rattle.svg_axes.specs.declared.frame.Frame.{Frame}
-use Rattle.svg_axes.specs.Subject.{Shown}
+use Rattle.svg_axes.specs.Subject.{SubjectLists}
 use Rattle.svg_axes.specs.Frame.{frame_of}
 use Rattle.svg_marks.specs.Escape.{each}
 use Rattle.svg_picture.specs.Framing.{framing_text}
 use Rattle.svg_series.specs.Canister.{curve_text, readings_text, legend_text}
 
-unfoldable pub canister_text : Shown → Frame → ℕ → List ℕ
+unfoldable pub canister_text : SubjectLists → Frame → ℕ → List ℕ
 canister_text s f g = curve_text s f g ++ (readings_text s f g ++ legend_text s g)
 
 -- the frame, and then canister after canister
-unfoldable pub drawn_text : Shown → Frame → Bool → List ℕ → List ℕ
+unfoldable pub drawn_text : SubjectLists → Frame → Bool → List ℕ → List ℕ
 drawn_text s f example said =
     joined (
     codes
@@ -23,10 +23,10 @@ drawn_text s f example said =
     ∷ [])
 
 -- in the frame, if there is one
-abbrev pub pictured : Shown → Bool → List ℕ → Option Frame → List ℕ
+abbrev pub pictured : SubjectLists → Bool → List ℕ → Option Frame → List ℕ
 pictured s example said (Some f) = drawn_text s f example said
 pictured s example said None = []
 
 -- what is said stands in the title after the curve's name
-unfoldable pub picture_text : Shown → Bool → List ℕ → List ℕ
+unfoldable pub picture_text : SubjectLists → Bool → List ℕ → List ℕ
 picture_text s example said = pictured s example said (frame_of s)

@@ -6,8 +6,8 @@ use Rattle.std.specs.Float.Ieee.{of_int}
 use Rattle.math.specs.Basic.{add, mul, bits, is_finite}
 use Rattle.text_buffer.specs.Text.{joined}
 use Rattle.svg_axes.specs.declared.frame.Frame.{Frame}
-use Rattle.svg_axes.specs.Subject.{Shown, name_of}
-use Rattle.svg_axes.specs.Ranges.{curve_at, sample_of}
+use Rattle.svg_axes.specs.Subject.{SubjectLists, canister_name}
+use Rattle.svg_axes.specs.Ranges.{canister_curve_at, sample_of}
 use Rattle.svg_axes.specs.Axes.{x_pixel, y_pixel}
 use Rattle.svg_marks.specs.Marks.{number_text, colour_text, shape_text}
 use Rattle.svg_marks.specs.Escape.{each, escaped_byte}
@@ -17,12 +17,12 @@ unfoldable pub point_text : List ℕ → Frame → Float → Float → List ℕ
 point_text before f dose grams = number_text before (x_pixel f.x dose) ++ number_text (codes " ") (y_pixel f.y grams)
 
 -- a point of the curve; none where its value is not finite
-unfoldable pub vertex_text : Shown → Frame → ℕ → ℕ → List ℕ
+unfoldable pub vertex_text : SubjectLists → Frame → ℕ → ℕ → List ℕ
 vertex_text s f g j =
-    let grams = curve_at s g (sample_of f.doses j) in
+    let grams = canister_curve_at s g (sample_of f.doses j) in
     cond (is_finite grams) (point_text (codes " ") f (sample_of f.doses j) grams) []
 
-unfoldable pub curve_text : Shown → Frame → ℕ → List ℕ
+unfoldable pub curve_text : SubjectLists → Frame → ℕ → List ℕ
 curve_text s f g =
     joined (codes "<polyline fill=\"none\" stroke-width=\"1.6\" stroke=\"" ∷ colour_text g ∷ codes "\" points=\"" ∷ each (vertex_text s f g) 61 ∷ [])
 
@@ -30,17 +30,17 @@ curve_text s f g =
 unfoldable pub reading_text : Frame → ℕ → ℕ → Float → Float → List ℕ
 reading_text f g of dose grams = cond (of == g) (point_text (codes "<path d=\"M") f dose grams ++ shape_text g) []
 
-unfoldable pub marks_text : Shown → Frame → ℕ → List ℕ
+unfoldable pub marks_text : SubjectLists → Frame → ℕ → List ℕ
 marks_text s f g =
     each (λ i. reading_text f g (slice_index s.group i) (slice_index_or s.doses i nan) (slice_index_or s.grams i nan)) (length s.group)
 
-unfoldable pub readings_text : Shown → Frame → ℕ → List ℕ
+unfoldable pub readings_text : SubjectLists → Frame → ℕ → List ℕ
 readings_text s f g =
     joined (codes "\"/>\n<g stroke=\"white\" stroke-width=\"0.7\" fill=\"" ∷ colour_text g ∷ codes "\">\n" ∷ marks_text s f g ∷ [])
 
 -- the names of 32 canisters stand in the table's text
-unfoldable pub name_text : Shown → ℕ → List ℕ
-name_text s g = cond (nat_lt g 32) (flat_map escaped_byte (name_of s g)) (codes "?")
+unfoldable pub name_text : SubjectLists → ℕ → List ℕ
+name_text s g = cond (nat_lt g 32) (flat_map escaped_byte (canister_name s g)) (codes "?")
 
 -- rows of 14 from 60 on
 unfoldable pub legend_y : ℕ → Float
@@ -58,8 +58,8 @@ line_text g y =
 unfoldable pub key_text : ℕ → Float → List ℕ
 key_text g y = joined (line_text g y ∷ colour_text g ∷ number_text (codes "\"><path d=\"M708.0 ") y ∷ shape_text g ∷ [])
 
-unfoldable pub label_text : Shown → ℕ → Float → List ℕ
+unfoldable pub label_text : SubjectLists → ℕ → Float → List ℕ
 label_text s g y = joined (number_text (codes "</g><text x=\"730\" y=\"") y ∷ codes "\">" ∷ name_text s g ∷ codes "</text>\n" ∷ [])
 
-unfoldable pub legend_text : Shown → ℕ → List ℕ
+unfoldable pub legend_text : SubjectLists → ℕ → List ℕ
 legend_text s g = key_text g (legend_y g) ++ label_text s g (add (legend_y g) (bits 0x4010_0000_0000_0000))

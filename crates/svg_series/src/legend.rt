@@ -1,7 +1,7 @@
 // A canister's row of the legend: a piece of its line, its mark and its name.
 ghost use Rattle.std.specs.Prelude.{◌≡◌};
 ghost use Rattle.text_buffer.specs.Text.{wrote};
-ghost use Rattle.svg_axes.specs.Subject.{shown};
+ghost use Rattle.svg_axes.specs.Subject.{subject_lists};
 ghost use Rattle.svg_series.specs.Canister.{name_text, legend_y, line_text, key_text, label_text, legend_text};
 
 use svg_axes::subject::Subject;
@@ -18,7 +18,7 @@ const ROW_HEIGHT: f64 = 14.0;
 
 #[tactic(auto, unfolding(crate::specs::Canister::name_text))]
 fn name(out: &mut Text<'_>, s: &Subject<'_>, g: usize)
-    ensures { out.new ≡ wrote out.old (name_text (shown s.now) g) }
+    ensures { out.new ≡ wrote out.old (name_text (subject_lists s.now) g) }
 {
     if g < ROWS {
         escaped(out, s.name(g));
@@ -58,7 +58,7 @@ fn key(out: &mut Text<'_>, g: usize, y: f64)
 }
 
 fn label(out: &mut Text<'_>, s: &Subject<'_>, g: usize, y: f64)
-    ensures { out.new ≡ wrote out.old (label_text (shown s.now) g y) }
+    ensures { out.new ≡ wrote out.old (label_text (subject_lists s.now) g y) }
 {
     number(out, b"</g><text x=\"730\" y=\"", y);
     out.put(b"\">");
@@ -68,7 +68,7 @@ fn label(out: &mut Text<'_>, s: &Subject<'_>, g: usize, y: f64)
 
 #[tactic(auto, using(text_buffer::specs::laws::Text::writing), unfolding(crate::specs::Canister::legend_text))]
 pub fn legend(out: &mut Text<'_>, s: &Subject<'_>, g: usize)
-    ensures { out.new ≡ wrote out.old (legend_text (shown s.now) g) }
+    ensures { out.new ≡ wrote out.old (legend_text (subject_lists s.now) g) }
 {
     let y = row_y(g);
     key(out, g, y);

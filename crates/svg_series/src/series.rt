@@ -3,7 +3,7 @@
 ghost use Rattle.std.specs.Prelude.{◌≡◌};
 ghost use Rattle.text_buffer.specs.Text.{wrote};
 ghost use Rattle.svg_marks.specs.Escape.{each};
-ghost use Rattle.svg_axes.specs.Subject.{shown};
+ghost use Rattle.svg_axes.specs.Subject.{subject_lists};
 ghost use Rattle.svg_series.specs.Canister.{point_text, vertex_text, curve_text, reading_text, marks_text, readings_text};
 
 use svg_axes::axes::{x_pixel, y_pixel};
@@ -26,7 +26,7 @@ fn point(out: &mut Text<'_>, before: &[u8], f: &Frame, dose: f64, grams: f64)
 // A point of a curve; none where the curve's value is not finite.
 #[tactic(auto, using(text_buffer::specs::laws::Text::writing), unfolding(crate::specs::Canister::vertex_text))]
 fn vertex(out: &mut Text<'_>, s: &Subject<'_>, f: &Frame, g: usize, j: u64)
-    ensures { out.new ≡ wrote out.old (vertex_text (shown s.now) f.now g j) }
+    ensures { out.new ≡ wrote out.old (vertex_text (subject_lists s.now) f.now g j) }
 {
     let dose = sample(f.doses, j);
     let grams = curve_at(s, g, dose);
@@ -37,7 +37,7 @@ fn vertex(out: &mut Text<'_>, s: &Subject<'_>, f: &Frame, g: usize, j: u64)
 
 #[tactic(auto, using(svg_marks::proofs::Laws::running))]
 fn vertices(out: &mut Text<'_>, s: &Subject<'_>, f: &Frame, g: usize)
-    ensures { out.new ≡ wrote out.old (each (vertex_text (shown s.now) f.now g) 61) }
+    ensures { out.new ≡ wrote out.old (each (vertex_text (subject_lists s.now) f.now g) 61) }
 {
     for j in 0..SAMPLES {
         vertex(out, s, f, g, j);
@@ -45,7 +45,7 @@ fn vertices(out: &mut Text<'_>, s: &Subject<'_>, f: &Frame, g: usize)
 }
 
 pub fn curve(out: &mut Text<'_>, s: &Subject<'_>, f: &Frame, g: usize)
-    ensures { out.new ≡ wrote out.old (curve_text (shown s.now) f.now g) }
+    ensures { out.new ≡ wrote out.old (curve_text (subject_lists s.now) f.now g) }
 {
     out.put(b"<polyline fill=\"none\" stroke-width=\"1.6\" stroke=\"");
     colour(out, g);
@@ -66,7 +66,7 @@ fn reading(out: &mut Text<'_>, f: &Frame, g: usize, of: usize, dose: f64, grams:
 
 #[tactic(auto, using(svg_marks::proofs::Laws::running), unfolding(crate::specs::Canister::marks_text))]
 fn marks(out: &mut Text<'_>, s: &Subject<'_>, f: &Frame, g: usize)
-    ensures { out.new ≡ wrote out.old (marks_text (shown s.now) f.now g) }
+    ensures { out.new ≡ wrote out.old (marks_text (subject_lists s.now) f.now g) }
 {
     // By place and not zipped: a dose or grams that a shorter list lacks counts as NaN.
     for (i, &of) in s.group.iter().enumerate() {
@@ -75,7 +75,7 @@ fn marks(out: &mut Text<'_>, s: &Subject<'_>, f: &Frame, g: usize)
 }
 
 pub fn readings(out: &mut Text<'_>, s: &Subject<'_>, f: &Frame, g: usize)
-    ensures { out.new ≡ wrote out.old (readings_text (shown s.now) f.now g) }
+    ensures { out.new ≡ wrote out.old (readings_text (subject_lists s.now) f.now g) }
 {
     out.put(b"\"/>\n<g stroke=\"white\" stroke-width=\"0.7\" fill=\"");
     colour(out, g);
