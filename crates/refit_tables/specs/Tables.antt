@@ -9,7 +9,7 @@ use Rattle.text_lines.specs.Lines.{left_text, cell_text}
 use Rattle.text_floats.specs.Floats.{decimals_of, fixed_text, figure_text}
 use Rattle.svg_axes.specs.Subject.{SubjectLists, canister_name}
 use Rattle.svg_axes.specs.Ranges.{canister_curve_at}
-use Rattle.svg_marks.specs.Escape.{each}
+use Rattle.svg_marks.specs.Escape.{each_text}
 
 unfoldable pub name_text : SubjectLists → ℕ → List ℕ
 name_text s g = left_text 14 (canister_name s g)
@@ -36,7 +36,7 @@ row_of s effect g =
     joined (
     canister_text s g
     ∷ cell_text 13 (fixed_text effect (decimals_for (abs_of (get_or s.values s.place nan))))
-    ∷ each (own_text s effect) (length s.values)
+    ∷ each_text (own_text s effect) (length s.values)
     ∷ codes "\n"
     ∷ [])
 
@@ -62,7 +62,7 @@ canisters_text s =
     codes "\nEach canister's own curve\n  canister             effect"
     ∷ heads_of s.code
     ∷ codes "\n"
-    ∷ each (canister_row s) (length s.effects)
+    ∷ each_text (canister_row s) (length s.effects)
     ∷ [])
 
 -- ---- each reading
@@ -83,7 +83,7 @@ reading_row s d g i =
     ∷ [])
 
 unfoldable pub reading_rows : SubjectLists → ℕ → List ℕ
-reading_rows s d = each (λ i. reading_row s d (slice_index s.group i) i) (length s.group)
+reading_rows s d = each_text (λ i. reading_row s d (slice_index s.group i) i) (length s.group)
 
 unfoldable pub readings_text : SubjectLists → List ℕ
 readings_text s =

@@ -5,7 +5,7 @@ ghost use Rattle.std.specs.Prelude.{◌≡◌, length};
 ghost use Rattle.curves.specs.MeanFn.{code_of};
 ghost use Rattle.text_buffer.specs.Text.{wrote};
 ghost use Rattle.svg_axes.specs.Subject.{subject_lists};
-ghost use Rattle.svg_marks.specs.Escape.{each};
+ghost use Rattle.svg_marks.specs.Escape.{each_text};
 ghost use Rattle.refit_tables.specs.Tables.{name_text, canister_text, decimals_for, own_at, own_text, row_of, canister_row, heads_of, canisters_text, reading_row, reading_rows, readings_text};
 
 use curves::Curve;
@@ -54,7 +54,7 @@ fn own_value(out: &mut Text<'_>, s: &Subject<'_>, effect: f64, value: f64, i: us
 // A loop of one call, as of canister_rows and of svg_picture's canisters: each calls a function of its own.
 #[tactic(auto, using(svg_marks::proofs::Laws::running), unfolding(crate::specs::Tables::own_text))]
 fn own_values(out: &mut Text<'_>, s: &Subject<'_>, effect: f64)
-    ensures { out.new ≡ wrote out.old (each (own_text (subject_lists s.now) effect) (length s.now.values.now)) }
+    ensures { out.new ≡ wrote out.old (each_text (own_text (subject_lists s.now) effect) (length s.now.values.now)) }
 {
     for (i, &value) in s.values.iter().enumerate() {
         own_value(out, s, effect, value, i);
@@ -74,7 +74,7 @@ fn canister_row(out: &mut Text<'_>, s: &Subject<'_>, effect: f64, g: usize)
 
 #[tactic(auto, using(svg_marks::proofs::Laws::running), unfolding(crate::specs::Tables::canister_row))]
 fn canister_rows(out: &mut Text<'_>, s: &Subject<'_>)
-    ensures { out.new ≡ wrote out.old (each (canister_row (subject_lists s.now)) (length s.now.effects.now)) }
+    ensures { out.new ≡ wrote out.old (each_text (canister_row (subject_lists s.now)) (length s.now.effects.now)) }
 {
     for (g, &effect) in s.effects.iter().enumerate() {
         canister_row(out, s, effect, g);

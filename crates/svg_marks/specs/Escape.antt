@@ -3,8 +3,8 @@ use Rattle.std.specs.Prelude.{ℕ, cond, List, [], ◌∷◌, ◌++◌, eqb, ltb
 use Rattle.math.specs.Loops.{iter}
 
 -- the texts number 0 to n - 1
-abbrev pub each : (ℕ → List ℕ) → ℕ → List ℕ
-each f n = iter (λ i t. t ++ f i) n []
+abbrev pub each_text : (ℕ → List ℕ) → ℕ → List ℕ
+each_text f n = iter (λ i t. t ++ f i) n []
 
 -- the names of the four characters that XML keeps for itself, `?` for what ASCII does not print; any other byte stands for itself
 unfoldable pub escaped_byte : ℕ → List ℕ

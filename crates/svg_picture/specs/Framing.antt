@@ -10,7 +10,7 @@ use Rattle.svg_axes.specs.declared.frame.Frame.{Frame}
 use Rattle.svg_axes.specs.Axes.{x_pixel, y_pixel}
 use Rattle.svg_axes.specs.Subject.{curve_name}
 use Rattle.svg_marks.specs.Marks.{number_text}
-use Rattle.svg_marks.specs.Escape.{each}
+use Rattle.svg_marks.specs.Escape.{each_text}
 use Rattle.svg_picture.specs.declared.framing.Way.{Way}
 
 -- ---- the axes: tick i of the count + 1 ticks, with a line of the grid, and its label
@@ -34,7 +34,7 @@ unfoldable pub tick_text : Axis → Way → ℕ → List ℕ
 tick_text a way i = joined (grid_text a way (tick_at a i) ∷ codes "\">" ∷ fixed_text (tick_at a i) a.decimals ∷ codes "</text>\n" ∷ [])
 
 unfoldable pub ticks_text : Axis → Way → List ℕ
-ticks_text a way = each (tick_text a way) (a.count + 1)
+ticks_text a way = each_text (tick_text a way) (a.count + 1)
 
 -- ---- the frame: the title, the axes and what stands at them, and what that is in the example
 

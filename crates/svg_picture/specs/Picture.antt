@@ -4,7 +4,7 @@ use Rattle.text_buffer.specs.Text.{joined}
 use Rattle.svg_axes.specs.declared.frame.Frame.{Frame}
 use Rattle.svg_axes.specs.Subject.{SubjectLists}
 use Rattle.svg_axes.specs.Frame.{frame_of}
-use Rattle.svg_marks.specs.Escape.{each}
+use Rattle.svg_marks.specs.Escape.{each_text}
 use Rattle.svg_picture.specs.Framing.{framing_text}
 use Rattle.svg_series.specs.Canister.{curve_text, readings_text, legend_text}
 
@@ -18,7 +18,7 @@ drawn_text s f example said =
     codes
     "<svg xmlns=\"http://www.w3.org/2000/svg\" width=\"960\" height=\"510\" viewBox=\"0 0 960 510\"\n font-family=\"Helvetica, Arial, sans-serif\" font-size=\"12\" fill=\"#222222\">\n<rect width=\"960\" height=\"510\" fill=\"white\"/>\n"
     ∷ framing_text s.code f example said
-    ∷ each (canister_text s f) (length s.effects)
+    ∷ each_text (canister_text s f) (length s.effects)
     ∷ codes "</svg>\n"
     ∷ [])
 

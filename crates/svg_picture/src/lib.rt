@@ -5,7 +5,7 @@ pub mod framing;
 
 ghost use Rattle.std.specs.Prelude.{◌≡◌, length};
 ghost use Rattle.text_buffer.specs.Text.{wrote};
-ghost use Rattle.svg_marks.specs.Escape.{each};
+ghost use Rattle.svg_marks.specs.Escape.{each_text};
 ghost use Rattle.svg_axes.specs.Subject.{subject_lists};
 ghost use Rattle.svg_picture.specs.Picture.{canister_text, drawn_text, picture_text};
 
@@ -29,7 +29,7 @@ fn canister(out: &mut Text<'_>, s: &Subject<'_>, f: &Frame, g: usize)
 // A loop of its own, as other texts over a count have one: one for all would take a closure, and what it writes as a ghost value.
 #[tactic(auto, using(svg_marks::proofs::Laws::running))]
 fn canisters(out: &mut Text<'_>, s: &Subject<'_>, f: &Frame)
-    ensures { out.new ≡ wrote out.old (each (canister_text (subject_lists s.now) f.now) (length s.now.effects.now)) }
+    ensures { out.new ≡ wrote out.old (each_text (canister_text (subject_lists s.now) f.now) (length s.now.effects.now)) }
 {
     for g in 0..s.effects.len() {
         canister(out, s, f, g);

@@ -10,7 +10,7 @@ use Rattle.svg_axes.specs.Subject.{SubjectLists, canister_name}
 use Rattle.svg_axes.specs.Ranges.{canister_curve_at, sample_of}
 use Rattle.svg_axes.specs.Axes.{x_pixel, y_pixel}
 use Rattle.svg_marks.specs.Marks.{number_text, colour_text, shape_text}
-use Rattle.svg_marks.specs.Escape.{each, escaped_byte}
+use Rattle.svg_marks.specs.Escape.{each_text, escaped_byte}
 
 -- where a reading or a point of the curve stands
 unfoldable pub point_text : List ℕ → Frame → Float → Float → List ℕ
@@ -24,7 +24,7 @@ vertex_text s f g j =
 
 unfoldable pub curve_text : SubjectLists → Frame → ℕ → List ℕ
 curve_text s f g =
-    joined (codes "<polyline fill=\"none\" stroke-width=\"1.6\" stroke=\"" ∷ colour_text g ∷ codes "\" points=\"" ∷ each (vertex_text s f g) 61 ∷ [])
+    joined (codes "<polyline fill=\"none\" stroke-width=\"1.6\" stroke=\"" ∷ colour_text g ∷ codes "\" points=\"" ∷ each_text (vertex_text s f g) 61 ∷ [])
 
 -- the mark of a reading, if it is one of canister g, and the marks of all
 unfoldable pub reading_text : Frame → ℕ → ℕ → Float → Float → List ℕ
@@ -32,7 +32,7 @@ reading_text f g of dose grams = cond (of == g) (point_text (codes "<path d=\"M"
 
 unfoldable pub marks_text : SubjectLists → Frame → ℕ → List ℕ
 marks_text s f g =
-    each (λ i. reading_text f g (slice_index s.group i) (slice_index_or s.doses i nan) (slice_index_or s.grams i nan)) (length s.group)
+    each_text (λ i. reading_text f g (slice_index s.group i) (slice_index_or s.doses i nan) (slice_index_or s.grams i nan)) (length s.group)
 
 unfoldable pub readings_text : SubjectLists → Frame → ℕ → List ℕ
 readings_text s f g =

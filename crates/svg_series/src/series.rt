@@ -2,7 +2,7 @@
 // them to pieces again, as `curve_text (shown c.s.now) c.f.now c.g`.
 ghost use Rattle.std.specs.Prelude.{◌≡◌};
 ghost use Rattle.text_buffer.specs.Text.{wrote};
-ghost use Rattle.svg_marks.specs.Escape.{each};
+ghost use Rattle.svg_marks.specs.Escape.{each_text};
 ghost use Rattle.svg_axes.specs.Subject.{subject_lists};
 ghost use Rattle.svg_series.specs.Canister.{point_text, vertex_text, curve_text, reading_text, marks_text, readings_text};
 
@@ -37,7 +37,7 @@ fn vertex(out: &mut Text<'_>, s: &Subject<'_>, f: &Frame, g: usize, j: u64)
 
 #[tactic(auto, using(svg_marks::proofs::Laws::running))]
 fn vertices(out: &mut Text<'_>, s: &Subject<'_>, f: &Frame, g: usize)
-    ensures { out.new ≡ wrote out.old (each (vertex_text (subject_lists s.now) f.now g) 61) }
+    ensures { out.new ≡ wrote out.old (each_text (vertex_text (subject_lists s.now) f.now g) 61) }
 {
     for j in 0..SAMPLES {
         vertex(out, s, f, g, j);
