@@ -6,10 +6,10 @@ use Rattle.svg_axes.specs.Subject.{SubjectLists}
 use Rattle.svg_axes.specs.Frame.{frame_of}
 use Rattle.svg_marks.specs.Escape.{each_text}
 use Rattle.svg_picture.specs.Framing.{framing_text}
-use Rattle.svg_series.specs.Canister.{curve_text, readings_text, legend_text}
+use Rattle.svg_series.specs.Canister.{drawn_curve_text, drawn_readings_text, legend_text}
 
 unfoldable pub canister_text : SubjectLists → Frame → ℕ → List ℕ
-canister_text s f g = curve_text s f g ++ (readings_text s f g ++ legend_text s g)
+canister_text s f g = drawn_curve_text s f g ++ (drawn_readings_text s f g ++ legend_text s g)
 
 -- the frame, and then canister after canister
 unfoldable pub drawn_text : SubjectLists → Frame → Bool → List ℕ → List ℕ

@@ -22,8 +22,8 @@ vertex_text s f g j =
     let grams = canister_curve_at s g (sample_of f.doses j) in
     cond (is_finite grams) (point_text (codes " ") f (sample_of f.doses j) grams) []
 
-unfoldable pub curve_text : SubjectLists → Frame → ℕ → List ℕ
-curve_text s f g =
+unfoldable pub drawn_curve_text : SubjectLists → Frame → ℕ → List ℕ
+drawn_curve_text s f g =
     joined (codes "<polyline fill=\"none\" stroke-width=\"1.6\" stroke=\"" ∷ colour_text g ∷ codes "\" points=\"" ∷ each_text (vertex_text s f g) 61 ∷ [])
 
 -- the mark of a reading, if it is one of canister g, and the marks of all
@@ -34,20 +34,20 @@ unfoldable pub marks_text : SubjectLists → Frame → ℕ → List ℕ
 marks_text s f g =
     each_text (λ i. reading_text f g (slice_index s.group i) (slice_index_or s.doses i nan) (slice_index_or s.grams i nan)) (length s.group)
 
-unfoldable pub readings_text : SubjectLists → Frame → ℕ → List ℕ
-readings_text s f g =
+unfoldable pub drawn_readings_text : SubjectLists → Frame → ℕ → List ℕ
+drawn_readings_text s f g =
     joined (codes "\"/>\n<g stroke=\"white\" stroke-width=\"0.7\" fill=\"" ∷ colour_text g ∷ codes "\">\n" ∷ marks_text s f g ∷ [])
 
 -- the names of 32 canisters stand in the table's text
-unfoldable pub name_text : SubjectLists → ℕ → List ℕ
-name_text s g = cond (nat_lt g 32) (flat_map escaped_byte (canister_name s g)) (codes "?")
+unfoldable pub legend_name_text : SubjectLists → ℕ → List ℕ
+legend_name_text s g = cond (nat_lt g 32) (flat_map escaped_byte (canister_name s g)) (codes "?")
 
 -- rows of 14 from 60 on
 unfoldable pub legend_y : ℕ → Float
 legend_y g = cond (nat_lt g 32) (add (bits 0x404e_0000_0000_0000) (mul (bits 0x402c_0000_0000_0000) (of_int binary64 (pos g)))) (bits 0x404e_0000_0000_0000)
 
-unfoldable pub line_text : ℕ → Float → List ℕ
-line_text g y =
+unfoldable pub legend_line_text : ℕ → Float → List ℕ
+legend_line_text g y =
     joined (
     codes "</g>\n<path fill=\"none\" stroke-width=\"1.6\" stroke=\""
     ∷ colour_text g
@@ -55,11 +55,11 @@ line_text g y =
     ∷ codes "h28\"/>\n<g fill=\""
     ∷ [])
 
-unfoldable pub key_text : ℕ → Float → List ℕ
-key_text g y = joined (line_text g y ∷ colour_text g ∷ number_text (codes "\"><path d=\"M708.0 ") y ∷ shape_text g ∷ [])
+unfoldable pub legend_key_text : ℕ → Float → List ℕ
+legend_key_text g y = joined (legend_line_text g y ∷ colour_text g ∷ number_text (codes "\"><path d=\"M708.0 ") y ∷ shape_text g ∷ [])
 
-unfoldable pub label_text : SubjectLists → ℕ → Float → List ℕ
-label_text s g y = joined (number_text (codes "</g><text x=\"730\" y=\"") y ∷ codes "\">" ∷ name_text s g ∷ codes "</text>\n" ∷ [])
+unfoldable pub legend_label_text : SubjectLists → ℕ → Float → List ℕ
+legend_label_text s g y = joined (number_text (codes "</g><text x=\"730\" y=\"") y ∷ codes "\">" ∷ legend_name_text s g ∷ codes "</text>\n" ∷ [])
 
 unfoldable pub legend_text : SubjectLists → ℕ → List ℕ
-legend_text s g = key_text g (legend_y g) ++ label_text s g (add (legend_y g) (bits 0x4010_0000_0000_0000))
+legend_text s g = legend_key_text g (legend_y g) ++ legend_label_text s g (add (legend_y g) (bits 0x4010_0000_0000_0000))

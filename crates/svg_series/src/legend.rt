@@ -2,7 +2,7 @@
 ghost use Rattle.std.specs.Prelude.{◌≡◌};
 ghost use Rattle.text_buffer.specs.Text.{wrote};
 ghost use Rattle.svg_axes.specs.Subject.{subject_lists};
-ghost use Rattle.svg_series.specs.Canister.{name_text, legend_y, line_text, key_text, label_text, legend_text};
+ghost use Rattle.svg_series.specs.Canister.{legend_name_text, legend_y, legend_line_text, legend_key_text, legend_label_text, legend_text};
 
 use svg_axes::subject::Subject;
 use svg_marks::escape::escaped;
@@ -16,9 +16,9 @@ const FIRST_ROW: f64 = 60.0;
 
 const ROW_HEIGHT: f64 = 14.0;
 
-#[tactic(auto, unfolding(crate::specs::Canister::name_text))]
+#[tactic(auto, unfolding(crate::specs::Canister::legend_name_text))]
 fn name(out: &mut Text<'_>, s: &Subject<'_>, g: usize)
-    ensures { out.new ≡ wrote out.old (name_text (subject_lists s.now) g) }
+    ensures { out.new ≡ wrote out.old (legend_name_text (subject_lists s.now) g) }
 {
     if g < ROWS {
         escaped(out, s.name(g));
@@ -40,7 +40,7 @@ fn row_y(g: usize) -> f64
 
 // After the readings' end, a piece of the line.
 fn line(out: &mut Text<'_>, g: usize, y: f64)
-    ensures { out.new ≡ wrote out.old (line_text g y) }
+    ensures { out.new ≡ wrote out.old (legend_line_text g y) }
 {
     out.put(b"</g>\n<path fill=\"none\" stroke-width=\"1.6\" stroke=\"");
     colour(out, g);
@@ -49,7 +49,7 @@ fn line(out: &mut Text<'_>, g: usize, y: f64)
 }
 
 fn key(out: &mut Text<'_>, g: usize, y: f64)
-    ensures { out.new ≡ wrote out.old (key_text g y) }
+    ensures { out.new ≡ wrote out.old (legend_key_text g y) }
 {
     line(out, g, y);
     colour(out, g);
@@ -58,7 +58,7 @@ fn key(out: &mut Text<'_>, g: usize, y: f64)
 }
 
 fn label(out: &mut Text<'_>, s: &Subject<'_>, g: usize, y: f64)
-    ensures { out.new ≡ wrote out.old (label_text (subject_lists s.now) g y) }
+    ensures { out.new ≡ wrote out.old (legend_label_text (subject_lists s.now) g y) }
 {
     number(out, b"</g><text x=\"730\" y=\"", y);
     out.put(b"\">");

@@ -1,10 +1,10 @@
 // A canister's curve and its readings. `s`, `f` and `g` go from function to function apart: each contract would take a struct of
-// them to pieces again, as `curve_text (shown c.s.now) c.f.now c.g`.
+// them to pieces again, as `drawn_curve_text (subject_lists c.s.now) c.f.now c.g`.
 ghost use Rattle.std.specs.Prelude.{◌≡◌};
 ghost use Rattle.text_buffer.specs.Text.{wrote};
 ghost use Rattle.svg_marks.specs.Escape.{each_text};
 ghost use Rattle.svg_axes.specs.Subject.{subject_lists};
-ghost use Rattle.svg_series.specs.Canister.{point_text, vertex_text, curve_text, reading_text, marks_text, readings_text};
+ghost use Rattle.svg_series.specs.Canister.{point_text, vertex_text, drawn_curve_text, reading_text, marks_text, drawn_readings_text};
 
 use svg_axes::axes::{x_pixel, y_pixel};
 use svg_axes::curve_at;
@@ -45,7 +45,7 @@ fn vertices(out: &mut Text<'_>, s: &Subject<'_>, f: &Frame, g: usize)
 }
 
 pub fn curve(out: &mut Text<'_>, s: &Subject<'_>, f: &Frame, g: usize)
-    ensures { out.new ≡ wrote out.old (curve_text (subject_lists s.now) f.now g) }
+    ensures { out.new ≡ wrote out.old (drawn_curve_text (subject_lists s.now) f.now g) }
 {
     out.put(b"<polyline fill=\"none\" stroke-width=\"1.6\" stroke=\"");
     colour(out, g);
@@ -75,7 +75,7 @@ fn marks(out: &mut Text<'_>, s: &Subject<'_>, f: &Frame, g: usize)
 }
 
 pub fn readings(out: &mut Text<'_>, s: &Subject<'_>, f: &Frame, g: usize)
-    ensures { out.new ≡ wrote out.old (readings_text (subject_lists s.now) f.now g) }
+    ensures { out.new ≡ wrote out.old (drawn_readings_text (subject_lists s.now) f.now g) }
 {
     out.put(b"\"/>\n<g stroke=\"white\" stroke-width=\"0.7\" fill=\"");
     colour(out, g);

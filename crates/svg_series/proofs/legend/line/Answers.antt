@@ -1,8 +1,8 @@
 -- The texts of the definition, one by one.
 use Rattle.text_buffer.specs.laws.Text.{joined_none, joined_then}
-use Rattle.svg_series.specs.Canister.{line_text}
+use Rattle.svg_series.specs.Canister.{legend_line_text}
 use Rattle.svg_series.proofs.legend.line.Goals as goal
 
 pub returns : goal.returns
-unfolding line_text
+unfolding legend_line_text
 returns c = simp (joined_then, joined_none) (cc)

@@ -1,8 +1,8 @@
 -- The texts of the definition, one by one.
 use Rattle.text_buffer.specs.laws.Text.{joined_none, joined_then}
-use Rattle.svg_series.specs.Canister.{curve_text}
+use Rattle.svg_series.specs.Canister.{drawn_curve_text}
 use Rattle.svg_series.proofs.series.curve.Goals as goal
 
 pub returns : goal.returns
-unfolding curve_text
+unfolding drawn_curve_text
 returns c = simp (joined_then, joined_none) (cc)
