@@ -8,8 +8,8 @@ use Rattle.svg_marks.specs.Escape.{each_text}
 use Rattle.svg_picture.specs.Framing.{framing_text}
 use Rattle.svg_series.specs.Canister.{drawn_curve_text, drawn_readings_text, legend_text}
 
-unfoldable pub canister_text : SubjectLists → Frame → ℕ → List ℕ
-canister_text s f g = drawn_curve_text s f g ++ (drawn_readings_text s f g ++ legend_text s g)
+unfoldable pub drawn_canister_text : SubjectLists → Frame → ℕ → List ℕ
+drawn_canister_text s f g = drawn_curve_text s f g ++ (drawn_readings_text s f g ++ legend_text s g)
 
 -- the frame, and then canister after canister
 unfoldable pub drawn_text : SubjectLists → Frame → Bool → List ℕ → List ℕ
@@ -18,7 +18,7 @@ drawn_text s f example said =
     codes
     "<svg xmlns=\"http://www.w3.org/2000/svg\" width=\"960\" height=\"510\" viewBox=\"0 0 960 510\"\n font-family=\"Helvetica, Arial, sans-serif\" font-size=\"12\" fill=\"#222222\">\n<rect width=\"960\" height=\"510\" fill=\"white\"/>\n"
     ∷ framing_text s.code f example said
-    ∷ each_text (canister_text s f) (length s.effects)
+    ∷ each_text (drawn_canister_text s f) (length s.effects)
     ∷ codes "</svg>\n"
     ∷ [])
 

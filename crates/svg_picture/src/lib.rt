@@ -7,7 +7,7 @@ ghost use Rattle.std.specs.Prelude.{◌≡◌, length};
 ghost use Rattle.text_buffer.specs.Text.{wrote};
 ghost use Rattle.svg_marks.specs.Escape.{each_text};
 ghost use Rattle.svg_axes.specs.Subject.{subject_lists};
-ghost use Rattle.svg_picture.specs.Picture.{canister_text, drawn_text, picture_text};
+ghost use Rattle.svg_picture.specs.Picture.{drawn_canister_text, drawn_text, picture_text};
 
 use crate::framing::framing;
 use svg_axes::frame::{Frame, frame_of};
@@ -17,9 +17,9 @@ use svg_series::series::{curve, readings};
 use text_buffer::Text;
 
 // Canister g: its curve, its readings and its row of the legend; `s`, `f` and `g` apart, as in svg_series.
-#[tactic(auto, using(text_buffer::specs::laws::Text::writing), unfolding(crate::specs::Picture::canister_text))]
+#[tactic(auto, using(text_buffer::specs::laws::Text::writing), unfolding(crate::specs::Picture::drawn_canister_text))]
 fn canister(out: &mut Text<'_>, s: &Subject<'_>, f: &Frame, g: usize)
-    ensures { out.new ≡ wrote out.old (canister_text (subject_lists s.now) f.now g) }
+    ensures { out.new ≡ wrote out.old (drawn_canister_text (subject_lists s.now) f.now g) }
 {
     curve(out, s, f, g);
     readings(out, s, f, g);
@@ -29,7 +29,7 @@ fn canister(out: &mut Text<'_>, s: &Subject<'_>, f: &Frame, g: usize)
 // A loop of its own, as other texts over a count have one: one for all would take a closure, and what it writes as a ghost value.
 #[tactic(auto, using(svg_marks::proofs::Laws::running))]
 fn canisters(out: &mut Text<'_>, s: &Subject<'_>, f: &Frame)
-    ensures { out.new ≡ wrote out.old (each_text (canister_text (subject_lists s.now) f.now) (length s.now.effects.now)) }
+    ensures { out.new ≡ wrote out.old (each_text (drawn_canister_text (subject_lists s.now) f.now) (length s.now.effects.now)) }
 {
     for g in 0..s.effects.len() {
         canister(out, s, f, g);
