@@ -10,36 +10,36 @@ use Rattle.read_table.specs.declared.fault.TableFault.{TableFault}
 use Rattle.svg_axes.specs.Subject.{curve_name}
 
 -- the names of a curve's values
-unfoldable pub names_of : ℕ → List (List ℕ)
-names_of code =
+unfoldable pub value_names : ℕ → List (List ℕ)
+value_names code =
     cond (code == 1) (codes "Asym" ∷ codes "xmid" ∷ codes "scal" ∷ [])
     (cond (code == 2) (codes "Asym" ∷ codes "R0" ∷ codes "lrc" ∷ [])
     (cond (code == 3) (codes "Vm" ∷ codes "K" ∷ [])
     (cond (code == 4) (codes "A" ∷ codes "B" ∷ codes "xmid" ∷ codes "scal" ∷ []) [])))
 
 -- the place of a name among those of a curve's values
-unfoldable pub place_of : ℕ → List ℕ → Option ℕ
-place_of code word = position (λ name. str_eq_ignore_ascii_case name word) (names_of code)
+unfoldable pub value_place : ℕ → List ℕ → Option ℕ
+value_place code word = position (λ name. str_eq_ignore_ascii_case name word) (value_names code)
 
 -- a word names a value of some curve, in capitals or small letters
-unfoldable pub is_name : List ℕ → Bool
-is_name word =
-    list_any (λ curve. is_some (place_of (code_of curve) word)) (Curve.Sslogis ∷ Curve.Ssasymp ∷ Curve.Ssmicmen ∷ Curve.Ssfpl ∷ [])
+unfoldable pub is_value_name : List ℕ → Bool
+is_value_name word =
+    list_any (λ curve. is_some (value_place (code_of curve) word)) (Curve.Sslogis ∷ Curve.Ssasymp ∷ Curve.Ssmicmen ∷ Curve.Ssfpl ∷ [])
 
 -- a word is a curve's name
-abbrev pub is_curve : List ℕ → Curve → Bool
-is_curve word curve = str_eq_ignore_ascii_case (curve_name (code_of curve)) word
+abbrev pub is_curve_name : List ℕ → Curve → Bool
+is_curve_name word curve = str_eq_ignore_ascii_case (curve_name (code_of curve)) word
 
 unfoldable pub curve_named : List ℕ → Option Curve
-curve_named word = find (is_curve word) (Curve.Sslogis ∷ Curve.Ssasymp ∷ Curve.Ssmicmen ∷ Curve.Ssfpl ∷ [])
+curve_named word = find (is_curve_name word) (Curve.Sslogis ∷ Curve.Ssasymp ∷ Curve.Ssmicmen ∷ Curve.Ssfpl ∷ [])
 
 -- the name of value i of a curve
-unfoldable pub name_text : ℕ → ℕ → List ℕ
-name_text code i = slice_index_or (names_of code) i (codes "?")
+unfoldable pub value_name_text : ℕ → ℕ → List ℕ
+value_name_text code i = slice_index_or (value_names code) i (codes "?")
 
 -- a curve's name and its equation
-unfoldable pub curve_text : ℕ → List ℕ
-curve_text code =
+unfoldable pub curve_equation_text : ℕ → List ℕ
+curve_equation_text code =
     cond (code == 1) (codes "SSlogis: grams = Asym / (1 + exp((xmid - dose) / scal))")
     (cond (code == 2) (codes "SSasymp: grams = Asym + (R0 - Asym) * exp(-exp(lrc) * dose)")
     (cond (code == 3) (codes "SSmicmen: grams = Vm * dose / (K + dose)")
@@ -59,22 +59,22 @@ refusal_text Refusal.Outputs = codes "a list for the answer has a wrong length"
 refusal_text Refusal.Limits = codes "too many rounds or narrowings, or two effects"
 
 -- what is wrong with a line of the text
-unfoldable pub fault_text : TableFault → List ℕ
-fault_text TableFault.NotThreeFields = codes "not three fields: dose, grams, canister (a comment has a line of its own)"
-fault_text TableFault.DoseNotADecimal = codes "the dose is not a decimal number"
-fault_text TableFault.GramsNotADecimal = codes "the grams are not a decimal number"
-fault_text TableFault.TooManyDigits = codes "a number of more than 15 significant digits"
-fault_text TableFault.PowerOutOfRange = codes "a number whose exponent is out of range"
-fault_text TableFault.NotAName =
+unfoldable pub table_fault_text : TableFault → List ℕ
+table_fault_text TableFault.NotThreeFields = codes "not three fields: dose, grams, canister (a comment has a line of its own)"
+table_fault_text TableFault.DoseNotADecimal = codes "the dose is not a decimal number"
+table_fault_text TableFault.GramsNotADecimal = codes "the grams are not a decimal number"
+table_fault_text TableFault.TooManyDigits = codes "a number of more than 15 significant digits"
+table_fault_text TableFault.PowerOutOfRange = codes "a number whose exponent is out of range"
+table_fault_text TableFault.NotAName =
     codes "the canister's name is empty, longer than 32 bytes, or has a sign that is no letter, digit, '-', '.' or '_'"
-fault_text TableFault.TooManyReadings = codes "more than 512 readings"
-fault_text TableFault.TooManyCanisters = codes "more than 32 canisters"
-fault_text TableFault.NoReadings = codes "there are no readings"
-fault_text TableFault.DecimalComma =
+table_fault_text TableFault.TooManyReadings = codes "more than 512 readings"
+table_fault_text TableFault.TooManyCanisters = codes "more than 32 canisters"
+table_fault_text TableFault.NoReadings = codes "there are no readings"
+table_fault_text TableFault.DecimalComma =
     codes "a decimal comma, or a comma beside another separator: write decimals with a point, and one separator in a line"
-fault_text TableFault.HeaderOutOfOrder = codes "the header names its columns in another order than dose, grams, canister"
+table_fault_text TableFault.HeaderOutOfOrder = codes "the header names its columns in another order than dose, grams, canister"
 
 -- the same with the line's number, where it is known
 unfoldable pub line_fault_text : Option ℕ → TableFault → List ℕ
-line_fault_text None fault = fault_text fault
-line_fault_text (Some line) fault = codes "line " ++ (whole_text line ++ (codes ": " ++ fault_text fault))
+line_fault_text None fault = table_fault_text fault
+line_fault_text (Some line) fault = codes "line " ++ (whole_text line ++ (codes ": " ++ table_fault_text fault))

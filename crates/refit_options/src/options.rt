@@ -1,7 +1,7 @@
 // The words of the command line, one after the other.
 ghost use Rattle.std.specs.Prelude.{◌≡◌};
 ghost use Rattle.text_buffer.specs.Text.{wrote};
-ghost use Rattle.refit_options.specs.Options.{refused_at, is_flag, flag_of, order_of, ends_in_svg, nothing_asked, said_in, awaited_of, file_of, flag_from, next_of, place_in, last_of, option_fault};
+ghost use Rattle.refit_options.specs.Options.{refused_word, is_flag, flag_named, order_named, ends_in_svg, nothing_asked, said_in, awaited_of, file_of, flag_from, next_word, effect_place_in, command_at_end, option_fault_text};
 
 use crate::words::{curve_named, is_name, place_of};
 use curves::Curve;
@@ -116,7 +116,7 @@ pub struct Asked<'a> {
 }
 
 fn refused<'a>(word: &'a [u8], fault: OptionFault) -> Result<Asked<'a>, OptionError<'a>>
-    ensures { result ≡ refused_at word.entry fault }
+    ensures { result ≡ refused_word word.entry fault }
 {
     Err(OptionError { word, fault })
 }
@@ -138,17 +138,17 @@ fn is_flag(flag: Flag, word: &[u8]) -> bool
 }
 
 // The option that a word is; std's `find`, as in `curve_named`, each over a list of its own.
-#[tactic(auto, unfolding(crate::specs::Options::flag_of))]
+#[tactic(auto, unfolding(crate::specs::Options::flag_named))]
 fn flag_of(word: &[u8]) -> Option<Flag>
-    ensures { result ≡ flag_of word.now }
+    ensures { result ≡ flag_named word.now }
 {
     FLAGS.iter().copied().find(|flag| is_flag(*flag, word))
 }
 
 // An order of quadrature: a whole number of one or two digits, at most 11.
-#[tactic(auto, unfolding(crate::specs::Options::order_of))]
+#[tactic(auto, unfolding(crate::specs::Options::order_named))]
 fn order_of(word: &[u8]) -> Option<u64>
-    ensures { result ≡ order_of word.now }
+    ensures { result ≡ order_named word.now }
 {
     let n = match word {
         [b] if b.is_ascii_digit() => u64::from(*b - b'0'),
@@ -268,9 +268,9 @@ impl<'a> Asked<'a> {
     }
 
     // One word more.
-    #[tactic(auto, unfolding(crate::specs::Options::next_of))]
+    #[tactic(auto, unfolding(crate::specs::Options::next_word))]
     pub fn next(self, word: &'a [u8]) -> Result<Asked<'a>, OptionError<'a>>
-        ensures { result ≡ next_of self.entry word.entry }
+        ensures { result ≡ next_word self.entry word.entry }
     {
         if let Some((wanted, _)) = self.awaits {
             return self.awaited(wanted, word);
@@ -282,9 +282,9 @@ impl<'a> Asked<'a> {
     }
 
     // The place of the effect among the curve's values: the first if none was said.
-    #[tactic(auto, unfolding(crate::specs::Options::place_in))]
+    #[tactic(auto, unfolding(crate::specs::Options::effect_place_in))]
     fn place(self, curve: Curve) -> Result<usize, OptionError<'a>>
-        ensures { result ≡ place_in self.entry curve }
+        ensures { result ≡ effect_place_in self.entry curve }
     {
         let Some(word) = self.effect else {
             return Ok(0);
@@ -296,9 +296,9 @@ impl<'a> Asked<'a> {
     }
 
     // After the last word.
-    #[tactic(auto, unfolding(crate::specs::Options::last_of))]
+    #[tactic(auto, unfolding(crate::specs::Options::command_at_end))]
     pub fn last(self) -> Result<Command<'a>, OptionError<'a>>
-        ensures { result ≡ last_of self.entry }
+        ensures { result ≡ command_at_end self.entry }
     {
         if let Some((_, word)) = self.awaits {
             return Err(OptionError {
@@ -326,9 +326,9 @@ impl<'a> Asked<'a> {
     }
 }
 
-#[tactic(auto, unfolding(crate::specs::Options::option_fault))]
+#[tactic(auto, unfolding(crate::specs::Options::option_fault_text))]
 fn fault_words(fault: OptionFault) -> &'static [u8]
-    ensures { result.now ≡ option_fault fault }
+    ensures { result.now ≡ option_fault_text fault }
 {
     match fault {
         OptionFault::NoSuchOption => b"no such option; 'refit help' tells them",
@@ -356,7 +356,7 @@ fn fault_words(fault: OptionFault) -> &'static [u8]
 
 // A fault of the command line in words.
 pub fn fault(out: &mut Text<'_>, fault: OptionFault)
-    ensures { out.new ≡ wrote out.old (option_fault fault) }
+    ensures { out.new ≡ wrote out.old (option_fault_text fault) }
 {
     out.put(fault_words(fault));
 }

@@ -2,7 +2,7 @@
 ghost use Rattle.std.specs.Prelude.{◌≡◌, map};
 ghost use Rattle.curves.specs.MeanFn.{code_of};
 ghost use Rattle.text_buffer.specs.Text.{wrote};
-ghost use Rattle.refit_options.specs.Words.{is_name, names_of, place_of, is_curve, curve_named, name_text, curve_text, refusal_text, fault_text, line_fault_text};
+ghost use Rattle.refit_options.specs.Words.{is_value_name, value_names, value_place, is_curve_name, curve_named, value_name_text, curve_equation_text, refusal_text, table_fault_text, line_fault_text};
 
 use curves::Curve;
 use read_table::fault::TableFault;
@@ -19,9 +19,9 @@ const CURVES: [Curve; 4] = [
 ];
 
 // The names of a curve's values.
-#[tactic(auto, unfolding(crate::specs::Words::names_of))]
+#[tactic(auto, unfolding(crate::specs::Words::value_names))]
 fn names(curve: Curve) -> &'static [&'static [u8]]
-    ensures { map (λ w. w.now) result.now ≡ names_of (code_of curve) }
+    ensures { map (λ w. w.now) result.now ≡ value_names (code_of curve) }
 {
     match curve {
         Curve::Sslogis => &[b"Asym", b"xmid", b"scal"],
@@ -32,23 +32,23 @@ fn names(curve: Curve) -> &'static [&'static [u8]]
 }
 
 // The place of a name among those of a curve's values.
-#[tactic(auto, unfolding(crate::specs::Words::place_of))]
+#[tactic(auto, unfolding(crate::specs::Words::value_place))]
 pub fn place_of(curve: Curve, word: &[u8]) -> Option<usize>
-    ensures { result ≡ place_of (code_of curve) word.now }
+    ensures { result ≡ value_place (code_of curve) word.now }
 {
     find_word(names(curve), word)
 }
 
 // Whether a word names a value of some curve.
-#[tactic(auto, unfolding(crate::specs::Words::is_name))]
+#[tactic(auto, unfolding(crate::specs::Words::is_value_name))]
 pub fn is_name(word: &[u8]) -> bool
-    ensures { result ≡ is_name word.now }
+    ensures { result ≡ is_value_name word.now }
 {
     CURVES.iter().any(|curve| place_of(*curve, word).is_some())
 }
 
 fn is_curve(curve: Curve, word: &[u8]) -> bool
-    ensures { result ≡ is_curve word.now curve }
+    ensures { result ≡ is_curve_name word.now curve }
 {
     same_word(curve_name(curve), word)
 }
@@ -62,17 +62,17 @@ pub fn curve_named(word: &[u8]) -> Option<Curve>
 }
 
 // The name of value i of a curve.
-#[tactic(auto, unfolding(crate::specs::Words::name_text))]
+#[tactic(auto, unfolding(crate::specs::Words::value_name_text))]
 pub fn name(out: &mut Text<'_>, curve: Curve, i: usize)
-    ensures { out.new ≡ wrote out.old (name_text (code_of curve) i) }
+    ensures { out.new ≡ wrote out.old (value_name_text (code_of curve) i) }
 {
     out.put(names(curve).get(i).copied().unwrap_or(b"?"));
 }
 
 // The name within its line, as it is printed: put apart they would be two texts, here and in the definition.
-#[tactic(auto, unfolding(crate::specs::Words::curve_text))]
+#[tactic(auto, unfolding(crate::specs::Words::curve_equation_text))]
 fn curve_words(curve: Curve) -> &'static [u8]
-    ensures { result.now ≡ curve_text (code_of curve) }
+    ensures { result.now ≡ curve_equation_text (code_of curve) }
 {
     match curve {
         Curve::Sslogis => b"SSlogis: grams = Asym / (1 + exp((xmid - dose) / scal))",
@@ -84,7 +84,7 @@ fn curve_words(curve: Curve) -> &'static [u8]
 
 // A curve's name and its equation.
 pub fn curve(out: &mut Text<'_>, curve: Curve)
-    ensures { out.new ≡ wrote out.old (curve_text (code_of curve)) }
+    ensures { out.new ≡ wrote out.old (curve_equation_text (code_of curve)) }
 {
     out.put(curve_words(curve));
 }
@@ -117,9 +117,9 @@ pub fn refusal(out: &mut Text<'_>, refusal: Refusal)
 }
 
 // What is wrong with a line of the text.
-#[tactic(auto, unfolding(crate::specs::Words::fault_text))]
+#[tactic(auto, unfolding(crate::specs::Words::table_fault_text))]
 fn fault_words(fault: TableFault) -> &'static [u8]
-    ensures { result.now ≡ fault_text fault }
+    ensures { result.now ≡ table_fault_text fault }
 {
     match fault {
         TableFault::NotThreeFields => {

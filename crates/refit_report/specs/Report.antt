@@ -11,7 +11,7 @@ use Rattle.refit_calculation.specs.declared.Refused.{Refused}
 use Rattle.refit_calculation.specs.declared.Step.{Step}
 use Rattle.refit_calculation.specs.declared.Step.TheVariants.{Start, Search, Fit}
 use Rattle.refit_options.specs.declared.options.Task.{Task}
-use Rattle.refit_options.specs.Words.{name_text, refusal_text}
+use Rattle.refit_options.specs.Words.{value_name_text, refusal_text}
 use Rattle.refit_options.specs.Words as Words
 use Rattle.refit_warnings.specs.Warnings.{Results}
 use Rattle.refit_warnings.specs.Told.{lines_text, first_of}
@@ -23,9 +23,9 @@ unfoldable pub asked_text : SubjectLists → List ℕ
 asked_text s =
     joined (
     template_text (codes "Refit\n  readings      %n, of %n canisters\n  curve         ") (length s.doses ∷ length s.effects ∷ []) []
-    ∷ Words.curve_text s.code
+    ∷ Words.curve_equation_text s.code
     ∷ codes "\n  effect        each canister has its own "
-    ∷ name_text s.code s.place
+    ∷ value_name_text s.code s.place
     ∷ codes "\n"
     ∷ [])
 
@@ -96,7 +96,7 @@ unfoldable pub spread_of : ℕ → ℕ → Float → List ℕ
 spread_of code place x =
     joined (
     template_text (codes "  canisters'    %g   spread of their ") [] (x ∷ [])
-    ∷ name_text code place
+    ∷ value_name_text code place
     ∷ codes ": theta times the root of sigma2\n"
     ∷ [])
 

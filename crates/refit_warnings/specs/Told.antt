@@ -1,7 +1,7 @@
 -- The warnings in words.
 use Rattle.std.specs.Prelude.{ℕ, cond, List, [], ◌∷◌, ◌++◌, Option, Some, None, codes, find}
 use Rattle.text_buffer.specs.Text.{joined}
-use Rattle.refit_options.specs.Words.{name_text}
+use Rattle.refit_options.specs.Words.{value_name_text}
 use Rattle.refit_warnings.specs.declared.findings.Warning.{Warning}
 use Rattle.refit_warnings.specs.declared.findings.Warning.TheVariants.{Unmoved, Search, Fit, Step, Nothing, Few, Low, High, Alone, Quadrature}
 use Rattle.refit_warnings.specs.Warnings.{Results, warns}
@@ -38,7 +38,7 @@ remedy_of Alone = codes "The curve does not depend on them. To learn how much ca
 remedy_of Quadrature = codes "Leave --quadrature out unless you want just those numbers."
 
 unfoldable pub value_text : ℕ → Warning → List ℕ
-value_text code (Unmoved i) = name_text code i
+value_text code (Unmoved i) = value_name_text code i
 value_text code _ = []
 
 unfoldable pub line_text : ℕ → Warning → List ℕ
