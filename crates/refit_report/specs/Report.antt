@@ -15,7 +15,7 @@ use Rattle.refit_options.specs.Words.{value_name_text, refusal_text}
 use Rattle.refit_options.specs.Words as Words
 use Rattle.refit_warnings.specs.Warnings.{Results}
 use Rattle.refit_warnings.specs.Told.{lines_text, first_of}
-use Rattle.refit_tables.specs.Tables.{canisters_text, readings_text}
+use Rattle.refit_tables.specs.Tables.{canisters_table_text, readings_table_text}
 
 -- ---- what was asked
 
@@ -153,8 +153,8 @@ results_text r =
     theta_text r.refit
     ∷ fit_text r.shown.code r.shown.place r.refit
     ∷ curve_text r.shown
-    ∷ canisters_text r.shown
-    ∷ readings_text r.shown
+    ∷ canisters_table_text r.shown
+    ∷ readings_table_text r.shown
     ∷ warnings_text r
     ∷ [])
 

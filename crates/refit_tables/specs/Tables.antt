@@ -11,11 +11,11 @@ use Rattle.svg_axes.specs.Subject.{SubjectLists, canister_name}
 use Rattle.svg_axes.specs.Ranges.{canister_curve_at}
 use Rattle.svg_marks.specs.Escape.{each_text}
 
-unfoldable pub name_text : SubjectLists → ℕ → List ℕ
-name_text s g = left_text 14 (canister_name s g)
+unfoldable pub name_cell_text : SubjectLists → ℕ → List ℕ
+name_cell_text s g = left_text 14 (canister_name s g)
 
-unfoldable pub canister_text : SubjectLists → ℕ → List ℕ
-canister_text s g = joined (codes "  " ∷ name_text s g ∷ [])
+unfoldable pub first_column_text : SubjectLists → ℕ → List ℕ
+first_column_text s g = joined (codes "  " ∷ name_cell_text s g ∷ [])
 
 -- the decimals of a column whose numbers are about this size: six significant digits, or six decimals for what is very small
 unfoldable pub decimals_for : Float → ℕ
@@ -24,24 +24,24 @@ decimals_for size = cond (lt size (bits 0x3ee4_f8b5_88e3_68f1)) 6 (decimals_of s
 -- ---- each canister
 
 -- the canister's own value: where the effect stands, with it
-abbrev pub own_at : SubjectLists → Float → Float → ℕ → List ℕ
-own_at s effect value i = cell_text 13 (fixed_text (cond (eqb i s.place) (add value effect) value) (decimals_for (abs_of value)))
+abbrev pub own_value_text : SubjectLists → Float → Float → ℕ → List ℕ
+own_value_text s effect value i = cell_text 13 (fixed_text (cond (eqb i s.place) (add value effect) value) (decimals_for (abs_of value)))
 
 unfoldable pub own_text : SubjectLists → Float → ℕ → List ℕ
-own_text s effect i = own_at s effect (get_or s.values i nan) i
+own_text s effect i = own_value_text s effect (get_or s.values i nan) i
 
 -- the row of canister g, whose effect this is
-unfoldable pub row_of : SubjectLists → Float → ℕ → List ℕ
-row_of s effect g =
+unfoldable pub row_with_effect : SubjectLists → Float → ℕ → List ℕ
+row_with_effect s effect g =
     joined (
-    canister_text s g
+    first_column_text s g
     ∷ cell_text 13 (fixed_text effect (decimals_for (abs_of (get_or s.values s.place nan))))
     ∷ each_text (own_text s effect) (length s.values)
     ∷ codes "\n"
     ∷ [])
 
 unfoldable pub canister_row : SubjectLists → ℕ → List ℕ
-canister_row s g = row_of s (get_or s.effects g nan) g
+canister_row s g = row_with_effect s (get_or s.effects g nan) g
 
 -- what stands over the values of each curve, by its code, from 1
 abbrev pub heads : List (List ℕ)
@@ -56,8 +56,8 @@ heads =
 abbrev pub heads_of : ℕ → List ℕ
 heads_of code = get_or heads code []
 
-unfoldable pub canisters_text : SubjectLists → List ℕ
-canisters_text s =
+unfoldable pub canisters_table_text : SubjectLists → List ℕ
+canisters_table_text s =
     joined (
     codes "\nEach canister's own curve\n  canister             effect"
     ∷ heads_of s.code
@@ -74,7 +74,7 @@ reading_row s d g i =
     let grams = get_or s.grams i nan in
     let says = canister_curve_at s g dose in
     joined (
-    canister_text s g
+    first_column_text s g
     ∷ cell_text 13 (figure_text dose)
     ∷ cell_text 13 (figure_text grams)
     ∷ cell_text 13 (fixed_text says d)
@@ -85,8 +85,8 @@ reading_row s d g i =
 unfoldable pub reading_rows : SubjectLists → ℕ → List ℕ
 reading_rows s d = each_text (λ i. reading_row s d (slice_index s.group i) i) (length s.group)
 
-unfoldable pub readings_text : SubjectLists → List ℕ
-readings_text s =
+unfoldable pub readings_table_text : SubjectLists → List ℕ
+readings_table_text s =
     joined (
     codes "\nEach reading\n  canister               dose      weighed   curve says    difference\n"
     ∷ reading_rows s (decimals_for (largest_of s.grams))

@@ -6,7 +6,7 @@ ghost use Rattle.curves.specs.MeanFn.{code_of};
 ghost use Rattle.text_buffer.specs.Text.{wrote};
 ghost use Rattle.svg_axes.specs.Subject.{subject_lists};
 ghost use Rattle.svg_marks.specs.Escape.{each_text};
-ghost use Rattle.refit_tables.specs.Tables.{name_text, canister_text, decimals_for, own_at, own_text, row_of, canister_row, heads_of, canisters_text, reading_row, reading_rows, readings_text};
+ghost use Rattle.refit_tables.specs.Tables.{name_cell_text, first_column_text, decimals_for, own_value_text, own_text, row_with_effect, canister_row, heads_of, canisters_table_text, reading_row, reading_rows, readings_table_text};
 
 use curves::Curve;
 use svg_axes::curve_at;
@@ -16,16 +16,16 @@ use text_floats::decimals;
 use text_lines::columns;
 
 // A canister's name, at the left of 14 places.
-#[tactic(auto, unfolding(crate::specs::Tables::name_text))]
+#[tactic(auto, unfolding(crate::specs::Tables::name_cell_text))]
 fn name(out: &mut Text<'_>, s: &Subject<'_>, g: usize)
-    ensures { out.new ≡ wrote out.old (name_text (subject_lists s.now) g) }
+    ensures { out.new ≡ wrote out.old (name_cell_text (subject_lists s.now) g) }
 {
     columns::left(out, 14, s.name(g));
 }
 
-#[tactic(auto, using(text_buffer::specs::laws::Text::writing), unfolding(crate::specs::Tables::canister_text))]
+#[tactic(auto, using(text_buffer::specs::laws::Text::writing), unfolding(crate::specs::Tables::first_column_text))]
 fn canister(out: &mut Text<'_>, s: &Subject<'_>, g: usize)
-    ensures { out.new ≡ wrote out.old (canister_text (subject_lists s.now) g) }
+    ensures { out.new ≡ wrote out.old (first_column_text (subject_lists s.now) g) }
 {
     out.put(b"  ");
     name(out, s, g);
@@ -45,7 +45,7 @@ fn decimals_for(size: f64) -> u64
 
 // Value i of a canister: where the effect stands, with it.
 fn own_value(out: &mut Text<'_>, s: &Subject<'_>, effect: f64, value: f64, i: usize)
-    ensures { out.new ≡ wrote out.old (own_at (subject_lists s.now) effect value i) }
+    ensures { out.new ≡ wrote out.old (own_value_text (subject_lists s.now) effect value i) }
 {
     let own = if i == s.place { value + effect } else { value };
     columns::fixed(out, 13, own, decimals_for(math::abs(value)));
@@ -61,9 +61,9 @@ fn own_values(out: &mut Text<'_>, s: &Subject<'_>, effect: f64)
     }
 }
 
-#[tactic(auto, using(text_buffer::specs::laws::Text::writing), unfolding(crate::specs::Tables::row_of))]
+#[tactic(auto, using(text_buffer::specs::laws::Text::writing), unfolding(crate::specs::Tables::row_with_effect))]
 fn canister_row(out: &mut Text<'_>, s: &Subject<'_>, effect: f64, g: usize)
-    ensures { out.new ≡ wrote out.old (row_of (subject_lists s.now) effect g) }
+    ensures { out.new ≡ wrote out.old (row_with_effect (subject_lists s.now) effect g) }
 {
     let d = decimals_for(math::abs(math::at(s.values, s.place)));
     canister(out, s, g);
@@ -94,7 +94,7 @@ fn heads(curve: Curve) -> &'static [u8]
 }
 
 pub fn canisters(out: &mut Text<'_>, s: &Subject<'_>)
-    ensures { out.new ≡ wrote out.old (canisters_text (subject_lists s.now)) }
+    ensures { out.new ≡ wrote out.old (canisters_table_text (subject_lists s.now)) }
 {
     out.put(b"\nEach canister's own curve\n  canister             effect");
     out.put(heads(s.curve));
@@ -128,7 +128,7 @@ fn reading_rows(out: &mut Text<'_>, s: &Subject<'_>, d: u64)
 }
 
 pub fn readings(out: &mut Text<'_>, s: &Subject<'_>)
-    ensures { out.new ≡ wrote out.old (readings_text (subject_lists s.now)) }
+    ensures { out.new ≡ wrote out.old (readings_table_text (subject_lists s.now)) }
 {
     let d = decimals_for(math::largest(s.grams));
     out.put(
