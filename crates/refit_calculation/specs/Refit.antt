@@ -22,14 +22,14 @@ use Rattle.refit_calculation.specs.declared.Step.{Step}
 use Rattle.refit_calculation.specs.declared.Request.{Request}
 
 -- the rounds that a fit and the narrowings that the search are allowed
-abbrev pub rounds : ℕ
-rounds = 200
+abbrev pub rounds_allowed : ℕ
+rounds_allowed = 200
 
-abbrev pub narrowings : ℕ
-narrowings = 60
+abbrev pub narrowings_allowed : ℕ
+narrowings_allowed = 60
 
 -- what is asked: a curve's code, the readings, the places of the effects, the criterion's kind and its order
-pub record Asked : Type 0 where
+pub record RequestLists : Type 0 where
   pub code : ℕ
   pub doses : List Float
   pub grams : List Float
@@ -38,12 +38,12 @@ pub record Asked : Type 0 where
   pub reml : Bool
   pub n_agq : ℕ
 
-abbrev pub asked_of : ℕ → List Float → List Float → List ℕ → List ℕ → Bool → ℕ → Asked
-asked_of code doses grams groups places reml n_agq =
+abbrev pub request_of : ℕ → List Float → List Float → List ℕ → List ℕ → Bool → ℕ → RequestLists
+request_of code doses grams groups places reml n_agq =
     record { code = code; doses = doses; grams = grams; groups = groups; places = places; reml = reml; n_agq = n_agq }
 
-abbrev pub asked : Request → Asked
-asked r = asked_of r.code r.doses.now r.grams.now r.groups.now r.places.now r.reml r.n_agq
+abbrev pub request_lists : Request → RequestLists
+request_lists r = request_of r.code r.doses.now r.grams.now r.groups.now r.places.now r.reml r.n_agq
 
 -- what is answered, and the three lent lists as they are left: start values, curve values, effects
 pub record Refitted : Type 0 where
@@ -70,7 +70,7 @@ criterion_or (Some c) t starts adjusted s f =
 
 unfoldable pub with_criterion : Problem → Bool → ℕ → Bool → Found → Fitted → List Float → List Float → Refitted
 with_criterion q reml nAgq adjusted s f values b =
-    let t = Criterion.call_of (at_theta q s.theta) rounds reml nAgq values b in
+    let t = Criterion.call_of (at_theta q s.theta) rounds_allowed reml nAgq values b in
     criterion_or t.profile t q.starts adjusted s f
 
 -- ---- the fit at theta
@@ -81,7 +81,7 @@ fit_or (Some f) t q reml nAgq adjusted s = with_criterion q reml nAgq adjusted s
 
 unfoldable pub with_fit : Problem → Bool → ℕ → Bool → Found → List Float → List Float → Refitted
 with_fit q reml nAgq adjusted s values b =
-    let t = Fit.call_of (at_theta q s.theta) rounds values b in
+    let t = Fit.call_of (at_theta q s.theta) rounds_allowed values b in
     fit_or t.fitted t q reml nAgq adjusted s
 
 -- ---- the search, which writes no list
@@ -92,7 +92,7 @@ search_or (Some s) n q reml nAgq adjusted values b = with_fit q reml nAgq adjust
 
 unfoldable pub with_search : Problem → Bool → ℕ → Bool → List Float → List Float → Refitted
 with_search q reml nAgq adjusted values b =
-    let t = Search.call_of q rounds reml nAgq narrowings in
+    let t = Search.call_of q rounds_allowed reml nAgq narrowings_allowed in
     search_or t.found t.number q reml nAgq adjusted values b
 
 -- ---- the start values
@@ -117,17 +117,17 @@ unbounded code doses grams groups group_count places starts =
     problem_of code doses grams groups group_count places starts lower upper lower upper []
 
 -- a canister for each effect that is to be written
-unfoldable pub with_starts : Asked → Bool → List Float → List Float → List Float → Refitted
+unfoldable pub with_starts : RequestLists → Bool → List Float → List Float → List Float → Refitted
 with_starts r adjusted starts values b =
     with_search (unbounded r.code r.doses r.grams r.groups (length b) r.places starts) r.reml r.n_agq adjusted values b
 
 -- ---- all of it: from given start values, which are taken as they are, or from the self-start's, which leaves the list as it was where it is refused
 
-unfoldable pub self_started : Asked → List Float → List Float → List Float → Refitted
+unfoldable pub self_started : RequestLists → List Float → List Float → List Float → Refitted
 self_started r starts values b =
     let t = Start.call_of r.code r.doses r.grams starts in
     cond (eqb t.number 0) (with_starts r (is_adjusted r.code t.values) (adjusted_of r.code t.values) values b)
     (refused_at Step.Start t.number false t.values values b)
 
-unfoldable pub refit_of : Asked → Bool → List Float → List Float → List Float → Refitted
+unfoldable pub refit_of : RequestLists → Bool → List Float → List Float → List Float → Refitted
 refit_of r given starts values b = cond given (with_starts r false starts values b) (self_started r starts values b)

@@ -5,7 +5,7 @@
 ghost use Rattle.std.specs.Prelude.{◌≡◌, length, true, false};
 ghost use Rattle.curves.specs.MeanFn.{code_of};
 ghost use Rattle.fit_refusals.specs.Given.{given};
-ghost use Rattle.refit_calculation.specs.Refit.{asked, with_fit, with_search, is_adjusted, adjusted_of, with_starts, refit_of};
+ghost use Rattle.refit_calculation.specs.Refit.{request_lists, with_fit, with_search, is_adjusted, adjusted_of, with_starts, refit_of};
 
 use criterion::criterion;
 use curves::Curve;
@@ -153,7 +153,7 @@ fn started(
     b: &mut [f64],
 ) -> Result<Answer, Refused>
     requires { code_of curve ≡ r.now.code }
-    ensures { with_starts (asked r.now) adjusted starts.now values.old b.old
+    ensures { with_starts (request_lists r.now) adjusted starts.now values.old b.old
         ≡ record { answer = result; starts = starts.now; values = values.new; effects = b.new } }
 {
     let p = curve.n_params();
@@ -184,7 +184,7 @@ pub fn refit_from(
     values: &mut [f64],
     b: &mut [f64],
 ) -> Result<Answer, Refused>
-    ensures { refit_of (asked request.now) true starts.now values.old b.old
+    ensures { refit_of (request_lists request.now) true starts.now values.old b.old
         ≡ record { answer = result; starts = starts.now; values = values.new; effects = b.new } }
 {
     let Ok(curve) = Curve::try_from(request.code) else {
@@ -202,7 +202,7 @@ pub fn refit(
     values: &mut [f64],
     b: &mut [f64],
 ) -> Result<Answer, Refused>
-    ensures { refit_of (asked request.now) false starts.old values.old b.old
+    ensures { refit_of (request_lists request.now) false starts.old values.old b.old
         ≡ record { answer = result; starts = starts.new; values = values.new; effects = b.new } }
 {
     let Ok(curve) = Curve::try_from(request.code) else {

@@ -9,7 +9,7 @@ use Rattle.svg_axes.specs.Subject.{SubjectLists}
 use Rattle.svg_picture.specs.Picture.{picture_text}
 use Rattle.refit_calculation.specs.declared.Answer.{Answer}
 use Rattle.refit_calculation.specs.declared.Refused.{Refused}
-use Rattle.refit_calculation.specs.Refit.{Refitted, asked_of, refit_of}
+use Rattle.refit_calculation.specs.Refit.{Refitted, request_of, refit_of}
 use Rattle.refit_options.specs.declared.options.Task.{Task}
 use Rattle.refit_warnings.specs.Told.{first_of, title_of}
 use Rattle.refit_report.specs.Report.{report_text}
@@ -72,7 +72,7 @@ shown_of o r t =
 unfoldable pub answer_of : Task → Read → List Float → List Float → List Float → Written → Written → Written × Written
 answer_of o r starts values effects out svg =
     let t = refit_of
-    (asked_of (code_of o.settings.curve) r.doses (take (length r.doses) r.grams) (take (length r.doses) r.group) (o.settings.place ∷ []) o.settings.reml o.settings.n_agq)
+    (request_of (code_of o.settings.curve) r.doses (take (length r.doses) r.grams) (take (length r.doses) r.group) (o.settings.place ∷ []) o.settings.reml o.settings.n_agq)
     (is_some o.given) starts values effects in
     told_of o (shown_of o r t) t.starts t.answer out svg
 

@@ -7,7 +7,7 @@ pub mod readings;
 
 ghost use Rattle.std.specs.Prelude.{◌≡◌, ◌≤◌, IfOk, is_some};
 ghost use Rattle.curves.specs.MeanFn.{code_of, n_params_of};
-ghost use Rattle.refit_calculation.specs.Refit.{asked, refit_of};
+ghost use Rattle.refit_calculation.specs.Refit.{request_lists, refit_of};
 ghost use Rattle.svg_axes.specs.Subject.{subject_lists};
 ghost use Rattle.refit_run.specs.Run.{InReach, read, fault_of, picture_of, told_of, answered, run_of};
 
@@ -68,7 +68,7 @@ fn refitted(
     values: &mut [f64],
     effects: &mut [f64],
 ) -> Result<Answer, Refused>
-    ensures { refit_of (asked request.now) (is_some o.now.given) starts.old values.old effects.old
+    ensures { refit_of (request_lists request.now) (is_some o.now.given) starts.old values.old effects.old
         ≡ record { answer = result; starts = starts.new; values = values.new; effects = effects.new } }
 {
     match o.given {
