@@ -13,8 +13,8 @@ use Rattle.refit_calculation.specs.declared.Step.TheVariants.{Start, Search, Fit
 use Rattle.refit_options.specs.declared.options.Task.{Task}
 use Rattle.refit_options.specs.Words.{value_name_text, refusal_text}
 use Rattle.refit_options.specs.Words as Words
-use Rattle.refit_warnings.specs.Warnings.{Results}
-use Rattle.refit_warnings.specs.Told.{lines_text, first_of}
+use Rattle.refit_warnings.specs.Warnings.{FindingsLists}
+use Rattle.refit_warnings.specs.Told.{warning_lines_text, first_warning}
 use Rattle.refit_tables.specs.Tables.{canisters_table_text, readings_table_text}
 
 -- ---- what was asked
@@ -122,11 +122,11 @@ curve_text s = joined (codes "\nThe curve of all canisters\n" ∷ values_text s.
 
 -- ---- the warnings, last, where a screen ends
 
-unfoldable pub all_warnings : Results → List ℕ
-all_warnings r = joined (codes "\nWarnings\n" ∷ lines_text r ∷ [])
+unfoldable pub all_warnings : FindingsLists → List ℕ
+all_warnings r = joined (codes "\nWarnings\n" ∷ warning_lines_text r ∷ [])
 
-unfoldable pub warnings_text : Results → List ℕ
-warnings_text r = cond (is_some (first_of r)) (all_warnings r) []
+unfoldable pub warnings_text : FindingsLists → List ℕ
+warnings_text r = cond (is_some (first_warning r)) (all_warnings r) []
 
 -- ---- a refusal: which step was refused, by which number, and what that means
 
@@ -147,22 +147,22 @@ refused_text e =
 
 -- ---- all of it
 
-unfoldable pub results_text : Results → List ℕ
+unfoldable pub results_text : FindingsLists → List ℕ
 results_text r =
     joined (
     theta_text r.refit
-    ∷ fit_text r.shown.code r.shown.place r.refit
-    ∷ curve_text r.shown
-    ∷ canisters_table_text r.shown
-    ∷ readings_table_text r.shown
+    ∷ fit_text r.subject.code r.subject.place r.refit
+    ∷ curve_text r.subject
+    ∷ canisters_table_text r.subject
+    ∷ readings_table_text r.subject
     ∷ warnings_text r
     ∷ [])
 
-unfoldable pub told_text : Task → Results → List ℕ
+unfoldable pub told_text : Task → FindingsLists → List ℕ
 told_text o r =
     joined (
-    beginning_text o r.shown (is_some (first_of r))
-    ∷ starts_text r.shown.code (is_some o.given) r.refit.adjusted r.starts
+    beginning_text o r.subject (is_some (first_warning r))
+    ∷ starts_text r.subject.code (is_some o.given) r.refit.adjusted r.starts
     ∷ results_text r
     ∷ [])
 
@@ -180,5 +180,5 @@ without_text o s starts e =
     joined (beginning_text o s false ∷ begun_text s.code (is_some o.given) starts e ∷ refused_text e ∷ [])
 
 unfoldable pub report_text : Task → SubjectLists → List Float → Result Answer Refused → List ℕ
-report_text o s starts (Ok refit) = told_text o (record { shown = s; starts = starts; n_agq = o.settings.n_agq; refit = refit })
+report_text o s starts (Ok refit) = told_text o (record { subject = s; starts = starts; n_agq = o.settings.n_agq; refit = refit })
 report_text o s starts (Err e) = without_text o s starts e

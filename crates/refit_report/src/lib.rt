@@ -7,7 +7,7 @@ ghost use Rattle.std.specs.Prelude.{◌≡◌};
 ghost use Rattle.curves.specs.MeanFn.{code_of};
 ghost use Rattle.text_buffer.specs.Text.{wrote};
 ghost use Rattle.svg_axes.specs.Subject.{subject_lists};
-ghost use Rattle.refit_warnings.specs.Warnings.{results};
+ghost use Rattle.refit_warnings.specs.Warnings.{findings_lists};
 ghost use Rattle.refit_report.specs.Report.{value_lines, values_text, note_text, starts_text, theta_text, spread_of, spread_text, converged_text, fit_text, curve_text, all_warnings, warnings_text, step_text, refused_text, results_text, told_text, begun_text, without_text, report_text};
 
 use crate::beginning::{beginning, either, when};
@@ -136,7 +136,7 @@ fn curve_of_all(out: &mut Text<'_>, s: &Subject<'_>)
 }
 
 fn all_warnings(out: &mut Text<'_>, f: &Findings<'_>)
-    ensures { out.new ≡ wrote out.old (all_warnings (results f.now)) }
+    ensures { out.new ≡ wrote out.old (all_warnings (findings_lists f.now)) }
 {
     out.put(b"\nWarnings\n");
     lines(out, f);
@@ -145,7 +145,7 @@ fn all_warnings(out: &mut Text<'_>, f: &Findings<'_>)
 // The warnings stand last, where a screen ends.
 #[tactic(auto, using(text_buffer::specs::laws::Text::writing), unfolding(crate::specs::Report::warnings_text))]
 fn warnings_of(out: &mut Text<'_>, f: &Findings<'_>)
-    ensures { out.new ≡ wrote out.old (warnings_text (results f.now)) }
+    ensures { out.new ≡ wrote out.old (warnings_text (findings_lists f.now)) }
 {
     if first(f).is_some() {
         all_warnings(out, f);
@@ -182,7 +182,7 @@ fn refused(out: &mut Text<'_>, e: Refused)
 // What was found, each canister's curve and each reading.
 #[tactic(auto, using(text_buffer::specs::laws::Text::writing), unfolding(crate::specs::Report::results_text))]
 fn results_of(out: &mut Text<'_>, f: &Findings<'_>)
-    ensures { out.new ≡ wrote out.old (results_text (results f.now)) }
+    ensures { out.new ≡ wrote out.old (results_text (findings_lists f.now)) }
 {
     let s = &f.subject;
     theta_of(out, &f.refit);
@@ -196,7 +196,7 @@ fn results_of(out: &mut Text<'_>, f: &Findings<'_>)
 // The report of a refit that was not refused.
 #[tactic(auto, using(text_buffer::specs::laws::Text::writing), unfolding(crate::specs::Report::told_text))]
 fn told(out: &mut Text<'_>, o: &Task, f: &Findings<'_>)
-    ensures { out.new ≡ wrote out.old (told_text o.now (results f.now)) }
+    ensures { out.new ≡ wrote out.old (told_text o.now (findings_lists f.now)) }
 {
     let s = &f.subject;
     beginning(out, o, s, first(f).is_some());

@@ -11,7 +11,7 @@ use Rattle.refit_calculation.specs.declared.Answer.{Answer}
 use Rattle.refit_calculation.specs.declared.Refused.{Refused}
 use Rattle.refit_calculation.specs.Refit.{Refitted, request_of, refit_of}
 use Rattle.refit_options.specs.declared.options.Task.{Task}
-use Rattle.refit_warnings.specs.Told.{first_of, title_of}
+use Rattle.refit_warnings.specs.Told.{first_warning, warning_title}
 use Rattle.refit_report.specs.Report.{report_text}
 use Rattle.refit_run.specs.declared.readings.Readings.{Readings}
 
@@ -44,15 +44,15 @@ pub record InReach (r : Read) : Type 0 where
 
 -- the picture, where one is asked for and there is a fit
 unfoldable pub picture_of : Task → SubjectLists → List Float → Result Answer Refused → Written → Written
-picture_of o shown starts (Err e) svg = svg
-picture_of o shown starts (Ok refit) svg =
+picture_of o subject starts (Err e) svg = svg
+picture_of o subject starts (Ok refit) svg =
     cond o.picture
-    (wrote svg (picture_text shown o.example (title_of (first_of (record { shown = shown; starts = starts; n_agq = o.settings.n_agq; refit = refit })))))
+    (wrote svg (picture_text subject o.example (warning_title (first_warning (record { subject = subject; starts = starts; n_agq = o.settings.n_agq; refit = refit })))))
     svg
 
 -- the report and the picture of a refit
 abbrev pub told_of : Task → SubjectLists → List Float → Result Answer Refused → Written → Written → Written × Written
-told_of o shown starts answer out svg = (wrote out (report_text o shown starts answer), picture_of o shown starts answer svg)
+told_of o subject starts answer out svg = (wrote out (report_text o subject starts answer), picture_of o subject starts answer svg)
 
 -- what is shown of a refit
 abbrev pub shown_of : Task → Read → Refitted → SubjectLists

@@ -4,7 +4,7 @@ use Rattle.text_buffer.specs.Text.{joined}
 use Rattle.refit_options.specs.Words.{value_name_text}
 use Rattle.refit_warnings.specs.declared.findings.Warning.{Warning}
 use Rattle.refit_warnings.specs.declared.findings.Warning.TheVariants.{Unmoved, Search, Fit, Step, Nothing, Few, Low, High, Alone, Quadrature}
-use Rattle.refit_warnings.specs.Warnings.{Results, warns}
+use Rattle.refit_warnings.specs.Warnings.{FindingsLists, warns}
 
 -- all warnings, the gravest first
 abbrev pub all_warnings : List Warning
@@ -37,38 +37,38 @@ remedy_of High = codes "Each canister's curve stands nearly alone. Is each name 
 remedy_of Alone = codes "The curve does not depend on them. To learn how much canisters differ, weigh a second one."
 remedy_of Quadrature = codes "Leave --quadrature out unless you want just those numbers."
 
-unfoldable pub value_text : ℕ → Warning → List ℕ
-value_text code (Unmoved i) = value_name_text code i
-value_text code _ = []
+unfoldable pub warned_value_text : ℕ → Warning → List ℕ
+warned_value_text code (Unmoved i) = value_name_text code i
+warned_value_text code _ = []
 
-unfoldable pub line_text : ℕ → Warning → List ℕ
-line_text code w = joined (codes "  *** " ∷ value_text code w ∷ what_of w ∷ codes " ***\n      " ∷ remedy_of w ∷ codes "\n" ∷ [])
+unfoldable pub warning_line_text : ℕ → Warning → List ℕ
+warning_line_text code w = joined (codes "  *** " ∷ warned_value_text code w ∷ what_of w ∷ codes " ***\n      " ∷ remedy_of w ∷ codes "\n" ∷ [])
 
 -- a line for each warning
-unfoldable pub warned_text : Results → Warning → List ℕ
-warned_text r w = cond (warns r w) (line_text r.shown.code w) []
+unfoldable pub warned_text : FindingsLists → Warning → List ℕ
+warned_text r w = cond (warns r w) (warning_line_text r.subject.code w) []
 
-unfoldable pub lines_for : Results → List Warning → List ℕ
-lines_for r [] = []
-lines_for r (w ∷ ws) = warned_text r w ++ lines_for r ws
+unfoldable pub warning_lines_for : FindingsLists → List Warning → List ℕ
+warning_lines_for r [] = []
+warning_lines_for r (w ∷ ws) = warned_text r w ++ warning_lines_for r ws
 
-unfoldable pub lines_text : Results → List ℕ
-lines_text r = lines_for r all_warnings
+unfoldable pub warning_lines_text : FindingsLists → List ℕ
+warning_lines_text r = warning_lines_for r all_warnings
 
 -- the gravest warning
-unfoldable pub first_of : Results → Option Warning
-first_of r = find (warns r) all_warnings
+unfoldable pub first_warning : FindingsLists → Option Warning
+first_warning r = find (warns r) all_warnings
 
 -- what a picture's title says, by the gravest warning
-unfoldable pub title_of : Option Warning → List ℕ
-title_of None = codes ": what was weighed, and each canister's fitted curve"
-title_of (Some (Unmoved i)) = codes ": <tspan fill=\"#b00020\">DO NOT USE THIS FIT: a value did not move from its start</tspan>"
-title_of (Some Search) = codes ": <tspan fill=\"#b00020\">DO NOT USE THIS FIT: the search did not converge</tspan>"
-title_of (Some Fit) = codes ": <tspan fill=\"#b00020\">DO NOT USE THIS FIT: it did not converge</tspan>"
-title_of (Some Step) = codes ": <tspan fill=\"#b00020\">DO NOT USE THIS FIT: the curve is a step</tspan>"
-title_of (Some Nothing) = codes ": <tspan fill=\"#b00020\">DO NOT USE THIS FIT: it explains nothing</tspan>"
-title_of (Some Few) = codes ": <tspan fill=\"#b00020\">DO NOT USE THIS FIT: too few readings</tspan>"
-title_of (Some Low) = codes ": the fitted curves; theta at the lower end of its range"
-title_of (Some High) = codes ": the fitted curves; theta at the upper end of its range"
-title_of (Some Alone) = codes ": the fitted curve; one canister only, so no theta"
-title_of (Some Quadrature) = codes ": the fitted curves; theta by the Rust's quadrature"
+unfoldable pub warning_title : Option Warning → List ℕ
+warning_title None = codes ": what was weighed, and each canister's fitted curve"
+warning_title (Some (Unmoved i)) = codes ": <tspan fill=\"#b00020\">DO NOT USE THIS FIT: a value did not move from its start</tspan>"
+warning_title (Some Search) = codes ": <tspan fill=\"#b00020\">DO NOT USE THIS FIT: the search did not converge</tspan>"
+warning_title (Some Fit) = codes ": <tspan fill=\"#b00020\">DO NOT USE THIS FIT: it did not converge</tspan>"
+warning_title (Some Step) = codes ": <tspan fill=\"#b00020\">DO NOT USE THIS FIT: the curve is a step</tspan>"
+warning_title (Some Nothing) = codes ": <tspan fill=\"#b00020\">DO NOT USE THIS FIT: it explains nothing</tspan>"
+warning_title (Some Few) = codes ": <tspan fill=\"#b00020\">DO NOT USE THIS FIT: too few readings</tspan>"
+warning_title (Some Low) = codes ": the fitted curves; theta at the lower end of its range"
+warning_title (Some High) = codes ": the fitted curves; theta at the upper end of its range"
+warning_title (Some Alone) = codes ": the fitted curve; one canister only, so no theta"
+warning_title (Some Quadrature) = codes ": the fitted curves; theta by the Rust's quadrature"

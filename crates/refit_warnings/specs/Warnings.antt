@@ -14,8 +14,8 @@ use Rattle.refit_warnings.specs.declared.findings.Warning.{Warning}
 use Rattle.refit_warnings.specs.declared.findings.Warning.TheVariants.{Unmoved, Search, Fit, Step, Nothing, Few, Low, High, Alone, Quadrature}
 
 -- Findings of the code, with their slices' lists
-pub record Results : Type 0 where
-  pub shown : SubjectLists
+pub record FindingsLists : Type 0 where
+  pub subject : SubjectLists
   pub starts : List Float
   pub n_agq : ℕ
   pub refit : Answer
@@ -24,8 +24,8 @@ pub record Results : Type 0 where
 abbrev pub found_of : Outcome → ℕ → Answer → Findings
 found_of o n_agq refit = record { subject = o.subject; starts = o.starts; n_agq = n_agq; refit = refit }
 
-abbrev pub results : Findings → Results
-results f = record { shown = subject_lists f.subject; starts = f.starts.now; n_agq = f.n_agq; refit = f.refit }
+abbrev pub findings_lists : Findings → FindingsLists
+findings_lists f = record { subject = subject_lists f.subject; starts = f.starts.now; n_agq = f.n_agq; refit = f.refit }
 
 -- ---- a constant for each canister, the mean of its grams
 
@@ -33,18 +33,18 @@ abbrev pub added_of : Sum → Bool → Float → Sum
 added_of s is grams = cond is (record { count = add s.count one; total = add s.total grams }) s
 
 -- the readings of canister g: how many, as a float, and the sum of their grams
-unfoldable pub sum_of : List ℕ → List Float → ℕ → Sum
-sum_of group grams g = iter (λ i s. added_of s (eqb (get_or group i 0) g) (get_or grams i nan)) (length group) (record { count = zero; total = zero })
+unfoldable pub canister_sum : List ℕ → List Float → ℕ → Sum
+canister_sum group grams g = iter (λ i s. added_of s (eqb (get_or group i 0) g) (get_or grams i nan)) (length group) (record { count = zero; total = zero })
 
-abbrev pub mean_of : List ℕ → List Float → ℕ → Float
-mean_of group grams g = div (sum_of group grams g).total (sum_of group grams g).count
+abbrev pub canister_mean : List ℕ → List Float → ℕ → Float
+canister_mean group grams g = div (canister_sum group grams g).total (canister_sum group grams g).count
 
 abbrev pub square_of : Float → Float
 square_of d = mul d d
 
 -- the sum of the squared differences from it
 unfoldable pub constant_rss : List ℕ → List Float → Float
-constant_rss group grams = iter (λ i s. add s (square_of (sub (get_or grams i nan) (mean_of group grams (get_or group i 0))))) (length group) zero
+constant_rss group grams = iter (λ i s. add s (square_of (sub (get_or grams i nan) (canister_mean group grams (get_or group i 0))))) (length group) zero
 
 -- the fit's rss is no lower; a millionth is taken for rounding
 abbrev pub explains_nothing : Float → List ℕ → List Float → Bool
@@ -65,32 +65,32 @@ is_step code values =
 -- ---- the readings
 
 -- no dose before dose i is the same
-abbrev pub is_new : List Float → ℕ → Bool
-is_new doses i = not (list_any (λ d. eq d (get_or doses i nan)) (take i doses))
+abbrev pub is_new_dose : List Float → ℕ → Bool
+is_new_dose doses i = not (list_any (λ d. eq d (get_or doses i nan)) (take i doses))
 
 abbrev pub counted_of : ℕ → Bool → ℕ
 counted_of n is = cond is (n + 1) n
 
 -- how many different doses there are
-unfoldable pub distinct_of : List Float → ℕ
-distinct_of doses = iter (λ i n. counted_of n (is_new doses i)) (length doses) 0
+unfoldable pub distinct_doses : List Float → ℕ
+distinct_doses doses = iter (λ i n. counted_of n (is_new_dose doses i)) (length doses) 0
 
 -- fewer different doses than the curve's p values, or no more readings than those and the canisters' differences
-unfoldable pub too_few : List Float → ℕ → ℕ → Bool
-too_few doses p groups = ltb (distinct_of doses) p || ltb (length doses - p) groups
+unfoldable pub too_few_readings : List Float → ℕ → ℕ → Bool
+too_few_readings doses p groups = ltb (distinct_doses doses) p || ltb (length doses - p) groups
 
 -- ---- all of them
 
 -- A value is where it started; the search, the fit did not converge; a step; nothing explained; too few readings; theta below 0.201, above 19.999, at an
 -- end of its range; one canister; quadrature
-unfoldable pub warns : Results → Warning → Bool
-warns r (Unmoved i) = is_unmoved r.starts r.shown.values i
+unfoldable pub warns : FindingsLists → Warning → Bool
+warns r (Unmoved i) = is_unmoved r.starts r.subject.values i
 warns r Search = not r.refit.search.converged
 warns r Fit = not r.refit.fit.converged
-warns r Step = is_step r.shown.code r.shown.values
-warns r Nothing = explains_nothing r.refit.fit.rss r.shown.group r.shown.grams
-warns r Few = too_few r.shown.doses (length r.shown.values) (length r.shown.effects)
-warns r Low = ltb 1 (length r.shown.effects) && lt r.refit.search.theta (bits 0x3fc9_ba5e_353f_7cee)
-warns r High = ltb 1 (length r.shown.effects) && lt (bits 0x4033_ffbe_76c8_b439) r.refit.search.theta
-warns r Alone = eqb (length r.shown.effects) 1
+warns r Step = is_step r.subject.code r.subject.values
+warns r Nothing = explains_nothing r.refit.fit.rss r.subject.group r.subject.grams
+warns r Few = too_few_readings r.subject.doses (length r.subject.values) (length r.subject.effects)
+warns r Low = ltb 1 (length r.subject.effects) && lt r.refit.search.theta (bits 0x3fc9_ba5e_353f_7cee)
+warns r High = ltb 1 (length r.subject.effects) && lt (bits 0x4033_ffbe_76c8_b439) r.refit.search.theta
+warns r Alone = eqb (length r.subject.effects) 1
 warns r Quadrature = ltb 1 r.n_agq

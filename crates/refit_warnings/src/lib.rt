@@ -8,7 +8,7 @@ ghost use Rattle.std.specs.Prelude.{◌≡◌};
 ghost use Rattle.std.specs.List.{list_any};
 ghost use Rattle.std.specs.Float.Ieee.{eq};
 ghost use Rattle.curves.specs.MeanFn.{code_of};
-ghost use Rattle.refit_warnings.specs.Warnings.{sum_of, mean_of, square_of, constant_rss, explains_nothing, is_unmoved, is_step, distinct_of, too_few, results, warns};
+ghost use Rattle.refit_warnings.specs.Warnings.{canister_sum, canister_mean, square_of, constant_rss, explains_nothing, is_unmoved, is_step, distinct_doses, too_few_readings, findings_lists, warns};
 
 use crate::findings::{Findings, Warning};
 use curves::Curve;
@@ -22,9 +22,9 @@ pub struct Sum {
 }
 
 // The readings of canister g. By index and no zip: where grams are missing, `at` says NaN.
-#[tactic(auto, using(math::specs::laws::Loops::iter_zero, math::specs::laws::Loops::iter_next), unfolding(crate::specs::Warnings::sum_of))]
+#[tactic(auto, using(math::specs::laws::Loops::iter_zero, math::specs::laws::Loops::iter_next), unfolding(crate::specs::Warnings::canister_sum))]
 fn readings_of(s: &Subject<'_>, g: usize) -> Sum
-    ensures { result ≡ sum_of s.now.group.now s.now.grams.now g }
+    ensures { result ≡ canister_sum s.now.group.now s.now.grams.now g }
 {
     let mut sum = Sum {
         count: 0.0,
@@ -40,7 +40,7 @@ fn readings_of(s: &Subject<'_>, g: usize) -> Sum
 }
 
 fn mean(s: &Subject<'_>, g: usize) -> f64
-    ensures { result ≡ mean_of s.now.group.now s.now.grams.now g }
+    ensures { result ≡ canister_mean s.now.group.now s.now.grams.now g }
 {
     let sum = readings_of(s, g);
     sum.total / sum.count
@@ -98,9 +98,9 @@ fn is_among(doses: &[f64], dose: f64) -> bool
 }
 
 // How many different doses there are.
-#[tactic(auto, using(math::specs::laws::Loops::iter_zero, math::specs::laws::Loops::iter_next), unfolding(crate::specs::Warnings::distinct_of))]
+#[tactic(auto, using(math::specs::laws::Loops::iter_zero, math::specs::laws::Loops::iter_next), unfolding(crate::specs::Warnings::distinct_doses))]
 fn distinct(doses: &[f64]) -> usize
-    ensures { result ≡ distinct_of doses.now }
+    ensures { result ≡ distinct_doses doses.now }
 {
     let mut n = 0;
     for (i, &dose) in doses.iter().enumerate() {
@@ -112,16 +112,16 @@ fn distinct(doses: &[f64]) -> usize
 }
 
 // Whether the readings are no more than p values and the differences between the canisters, or have fewer doses than values.
-#[tactic(auto, unfolding(crate::specs::Warnings::too_few))]
+#[tactic(auto, unfolding(crate::specs::Warnings::too_few_readings))]
 fn few(doses: &[f64], p: usize, groups: usize) -> bool
-    ensures { result ≡ too_few doses.now p groups }
+    ensures { result ≡ too_few_readings doses.now p groups }
 {
     distinct(doses) < p || doses.len().saturating_sub(p) < groups
 }
 
 #[tactic(auto, unfolding(crate::specs::Warnings::warns))]
 pub fn warns(f: &Findings<'_>, warning: Warning) -> bool
-    ensures { result ≡ warns (results f.now) warning }
+    ensures { result ≡ warns (findings_lists f.now) warning }
 {
     let s = f.subject;
     let groups = s.effects.len();

@@ -2,8 +2,8 @@
 ghost use Rattle.std.specs.Prelude.{◌≡◌, find};
 ghost use Rattle.curves.specs.MeanFn.{code_of};
 ghost use Rattle.text_buffer.specs.Text.{wrote};
-ghost use Rattle.refit_warnings.specs.Warnings.{results, warns};
-ghost use Rattle.refit_warnings.specs.Told.{what_of, remedy_of, value_text, line_text, warned_text, lines_for, lines_text, first_of, title_of};
+ghost use Rattle.refit_warnings.specs.Warnings.{findings_lists, warns};
+ghost use Rattle.refit_warnings.specs.Told.{what_of, remedy_of, warned_value_text, warning_line_text, warned_text, warning_lines_for, warning_lines_text, first_warning, warning_title};
 
 use crate::findings::{Findings, Warning};
 use crate::warns;
@@ -78,9 +78,9 @@ fn remedy(warning: Warning) -> &'static [u8]
     }
 }
 
-#[tactic(auto, using(text_buffer::specs::laws::Text::writing), unfolding(crate::specs::Told::value_text))]
+#[tactic(auto, using(text_buffer::specs::laws::Text::writing), unfolding(crate::specs::Told::warned_value_text))]
 fn value(out: &mut Text<'_>, curve: Curve, warning: Warning)
-    ensures { out.new ≡ wrote out.old (value_text (code_of curve) warning) }
+    ensures { out.new ≡ wrote out.old (warned_value_text (code_of curve) warning) }
 {
     if let Warning::Unmoved(i) = warning {
         name(out, curve, i);
@@ -88,7 +88,7 @@ fn value(out: &mut Text<'_>, curve: Curve, warning: Warning)
 }
 
 fn line(out: &mut Text<'_>, curve: Curve, warning: Warning)
-    ensures { out.new ≡ wrote out.old (line_text (code_of curve) warning) }
+    ensures { out.new ≡ wrote out.old (warning_line_text (code_of curve) warning) }
 {
     out.put(b"  *** ");
     value(out, curve, warning);
@@ -100,7 +100,7 @@ fn line(out: &mut Text<'_>, curve: Curve, warning: Warning)
 
 #[tactic(auto, using(text_buffer::specs::laws::Text::writing), unfolding(crate::specs::Told::warned_text))]
 fn warned(out: &mut Text<'_>, f: &Findings<'_>, warning: Warning)
-    ensures { out.new ≡ wrote out.old (warned_text (results f.now) warning) }
+    ensures { out.new ≡ wrote out.old (warned_text (findings_lists f.now) warning) }
 {
     if warns(f, warning) {
         line(out, f.subject.curve, warning);
@@ -109,7 +109,7 @@ fn warned(out: &mut Text<'_>, f: &Findings<'_>, warning: Warning)
 
 #[tactic(auto, using(crate::proofs::Laws::lines))]
 fn lines_for(out: &mut Text<'_>, f: &Findings<'_>, warnings: &[Warning])
-    ensures { out.new ≡ wrote out.old (lines_for (results f.now) warnings.now) }
+    ensures { out.new ≡ wrote out.old (warning_lines_for (findings_lists f.now) warnings.now) }
 {
     for &warning in warnings {
         warned(out, f, warning);
@@ -117,31 +117,31 @@ fn lines_for(out: &mut Text<'_>, f: &Findings<'_>, warnings: &[Warning])
 }
 
 // What is wrong and what to do, a line for each warning.
-#[tactic(auto, unfolding(crate::specs::Told::lines_text))]
+#[tactic(auto, unfolding(crate::specs::Told::warning_lines_text))]
 pub fn lines(out: &mut Text<'_>, f: &Findings<'_>)
-    ensures { out.new ≡ wrote out.old (lines_text (results f.now)) }
+    ensures { out.new ≡ wrote out.old (warning_lines_text (findings_lists f.now)) }
 {
     lines_for(out, f, &ALL);
 }
 
 fn first_among(f: &Findings<'_>, warnings: &[Warning]) -> Option<Warning>
-    ensures { result ≡ find (warns (results f.now)) warnings.now }
+    ensures { result ≡ find (warns (findings_lists f.now)) warnings.now }
 {
     warnings.iter().copied().find(|warning| warns(f, *warning))
 }
 
 // The gravest warning.
-#[tactic(auto, unfolding(crate::specs::Told::first_of))]
+#[tactic(auto, unfolding(crate::specs::Told::first_warning))]
 pub fn first(f: &Findings<'_>) -> Option<Warning>
-    ensures { result ≡ first_of (results f.now) }
+    ensures { result ≡ first_warning (findings_lists f.now) }
 {
     first_among(f, &ALL)
 }
 
 // What a picture's title says, by the gravest warning.
-#[tactic(auto, unfolding(crate::specs::Told::title_of))]
+#[tactic(auto, unfolding(crate::specs::Told::warning_title))]
 pub fn title(first: Option<Warning>) -> &'static [u8]
-    ensures { result.now ≡ title_of first }
+    ensures { result.now ≡ warning_title first }
 {
     match first {
         None => b": what was weighed, and each canister's fitted curve",
