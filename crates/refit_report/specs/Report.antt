@@ -33,8 +33,8 @@ asked_text s =
 unfoldable pub quadrature_text : ℕ → List ℕ
 quadrature_text order = cond (ltb 1 order) (template_text (codes "  quadrature    order %n\n") (order ∷ []) []) []
 
-unfoldable pub beginning_text : Task → SubjectLists → Bool → List ℕ
-beginning_text o s warned =
+unfoldable pub report_beginning_text : Task → SubjectLists → Bool → List ℕ
+report_beginning_text o s warned =
     joined (
     cond o.example
     (codes
@@ -82,8 +82,8 @@ starts_text code given adjusted starts =
 abbrev pub converged_text : Bool → List ℕ
 converged_text is = cond is (codes "  converged\n") (codes "  *** NOT CONVERGED: do not use these numbers ***\n")
 
-unfoldable pub theta_text : Answer → List ℕ
-theta_text r =
+unfoldable pub report_theta_text : Answer → List ℕ
+report_theta_text r =
     joined (
     template_text
     (codes "\nTheta, searched from 0.2 to 20\n  theta         %g\n  criterion     %g\n  search        %n narrowings, %n fits\n")
@@ -117,16 +117,16 @@ fit_text code place r =
 
 -- ---- the curve
 
-unfoldable pub curve_text : SubjectLists → List ℕ
-curve_text s = joined (codes "\nThe curve of all canisters\n" ∷ values_text s.code s.values ∷ [])
+unfoldable pub report_curve_text : SubjectLists → List ℕ
+report_curve_text s = joined (codes "\nThe curve of all canisters\n" ∷ values_text s.code s.values ∷ [])
 
 -- ---- the warnings, last, where a screen ends
 
-unfoldable pub all_warnings : FindingsLists → List ℕ
-all_warnings r = joined (codes "\nWarnings\n" ∷ warning_lines_text r ∷ [])
+unfoldable pub warnings_section_text : FindingsLists → List ℕ
+warnings_section_text r = joined (codes "\nWarnings\n" ∷ warning_lines_text r ∷ [])
 
 unfoldable pub warnings_text : FindingsLists → List ℕ
-warnings_text r = cond (is_some (first_warning r)) (all_warnings r) []
+warnings_text r = cond (is_some (first_warning r)) (warnings_section_text r) []
 
 -- ---- a refusal: which step was refused, by which number, and what that means
 
@@ -150,9 +150,9 @@ refused_text e =
 unfoldable pub results_text : FindingsLists → List ℕ
 results_text r =
     joined (
-    theta_text r.refit
+    report_theta_text r.refit
     ∷ fit_text r.subject.code r.subject.place r.refit
-    ∷ curve_text r.subject
+    ∷ report_curve_text r.subject
     ∷ canisters_table_text r.subject
     ∷ readings_table_text r.subject
     ∷ warnings_text r
@@ -161,7 +161,7 @@ results_text r =
 unfoldable pub told_text : Task → FindingsLists → List ℕ
 told_text o r =
     joined (
-    beginning_text o r.subject (is_some (first_warning r))
+    report_beginning_text o r.subject (is_some (first_warning r))
     ∷ starts_text r.subject.code (is_some o.given) r.refit.adjusted r.starts
     ∷ results_text r
     ∷ [])
@@ -177,7 +177,7 @@ begun_text code given starts e = begun_by e.step (starts_text code given e.adjus
 
 unfoldable pub without_text : Task → SubjectLists → List Float → Refused → List ℕ
 without_text o s starts e =
-    joined (beginning_text o s false ∷ begun_text s.code (is_some o.given) starts e ∷ refused_text e ∷ [])
+    joined (report_beginning_text o s false ∷ begun_text s.code (is_some o.given) starts e ∷ refused_text e ∷ [])
 
 unfoldable pub report_text : Task → SubjectLists → List Float → Result Answer Refused → List ℕ
 report_text o s starts (Ok refit) = told_text o (record { subject = s; starts = starts; n_agq = o.settings.n_agq; refit = refit })

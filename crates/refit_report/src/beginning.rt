@@ -2,7 +2,7 @@
 ghost use Rattle.std.specs.Prelude.{◌≡◌, cond, []};
 ghost use Rattle.text_buffer.specs.Text.{wrote};
 ghost use Rattle.svg_axes.specs.Subject.{subject_lists};
-ghost use Rattle.refit_report.specs.Report.{asked_text, quadrature_text, beginning_text};
+ghost use Rattle.refit_report.specs.Report.{asked_text, quadrature_text, report_beginning_text};
 
 use refit_options::options::Task;
 use refit_options::words::{curve, name};
@@ -52,7 +52,7 @@ fn quadrature(out: &mut Text<'_>, order: u64)
 }
 
 pub fn beginning(out: &mut Text<'_>, o: &Task, s: &Subject<'_>, warned: bool)
-    ensures { out.new ≡ wrote out.old (beginning_text o.now (subject_lists s.now) warned) }
+    ensures { out.new ≡ wrote out.old (report_beginning_text o.now (subject_lists s.now) warned) }
 {
     when(
         out,

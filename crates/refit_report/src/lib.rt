@@ -8,7 +8,7 @@ ghost use Rattle.curves.specs.MeanFn.{code_of};
 ghost use Rattle.text_buffer.specs.Text.{wrote};
 ghost use Rattle.svg_axes.specs.Subject.{subject_lists};
 ghost use Rattle.refit_warnings.specs.Warnings.{findings_lists};
-ghost use Rattle.refit_report.specs.Report.{value_lines, values_text, note_text, starts_text, theta_text, spread_of, spread_text, converged_text, fit_text, curve_text, all_warnings, warnings_text, step_text, refused_text, results_text, told_text, begun_text, without_text, report_text};
+ghost use Rattle.refit_report.specs.Report.{value_lines, values_text, note_text, starts_text, report_theta_text, spread_of, spread_text, converged_text, fit_text, report_curve_text, warnings_section_text, warnings_text, step_text, refused_text, results_text, told_text, begun_text, without_text, report_text};
 
 use crate::beginning::{beginning, either, when};
 use curves::Curve;
@@ -81,9 +81,9 @@ fn converged(out: &mut Text<'_>, is: bool)
     );
 }
 
-#[tactic(auto, using(text_buffer::specs::laws::Text::writing), unfolding(crate::specs::Report::theta_text))]
+#[tactic(auto, using(text_buffer::specs::laws::Text::writing), unfolding(crate::specs::Report::report_theta_text))]
 fn theta_of(out: &mut Text<'_>, r: &Answer)
-    ensures { out.new ≡ wrote out.old (theta_text r.now) }
+    ensures { out.new ≡ wrote out.old (report_theta_text r.now) }
 {
     fill(
         out,
@@ -129,14 +129,14 @@ fn fit_of(out: &mut Text<'_>, curve: Curve, place: usize, r: &Answer)
 }
 
 fn curve_of_all(out: &mut Text<'_>, s: &Subject<'_>)
-    ensures { out.new ≡ wrote out.old (curve_text (subject_lists s.now)) }
+    ensures { out.new ≡ wrote out.old (report_curve_text (subject_lists s.now)) }
 {
     out.put(b"\nThe curve of all canisters\n");
     values_of(out, s.curve, s.values);
 }
 
 fn all_warnings(out: &mut Text<'_>, f: &Findings<'_>)
-    ensures { out.new ≡ wrote out.old (all_warnings (findings_lists f.now)) }
+    ensures { out.new ≡ wrote out.old (warnings_section_text (findings_lists f.now)) }
 {
     out.put(b"\nWarnings\n");
     lines(out, f);
