@@ -9,7 +9,7 @@ ghost use Rattle.std.specs.Prelude.{◌≡◌, ◌≤◌, IfOk, is_some};
 ghost use Rattle.curves.specs.MeanFn.{code_of, n_params_of};
 ghost use Rattle.refit_calculation.specs.Refit.{request_lists, refit_of};
 ghost use Rattle.svg_axes.specs.Subject.{subject_lists};
-ghost use Rattle.refit_run.specs.Run.{InReach, read, fault_of, picture_of, told_of, answered, run_of};
+ghost use Rattle.refit_run.specs.Run.{InReach, readings_lists, readings_fault, picture_if_asked, report_and_picture, refit_told, refit_run_of};
 
 use crate::readings::{CANISTERS, READINGS, Readings};
 use read_table::fault::TableFault;
@@ -22,9 +22,9 @@ use svg_axes::subject::Subject;
 use text_buffer::Text;
 
 // The picture of a refit, where one is asked for and there is a fit.
-#[tactic(auto, unfolding(crate::specs::Run::picture_of))]
+#[tactic(auto, unfolding(crate::specs::Run::picture_if_asked))]
 fn picture(svg: &mut Text<'_>, o: &Task, r: &Outcome<'_>)
-    ensures { svg.new ≡ picture_of o.now (subject_lists r.now.subject) r.now.starts.now r.now.answer svg.old }
+    ensures { svg.new ≡ picture_if_asked o.now (subject_lists r.now.subject) r.now.starts.now r.now.answer svg.old }
 {
     if !o.picture {
         return;
@@ -48,7 +48,7 @@ fn told(
     out: &mut Text<'_>,
     svg: &mut Text<'_>,
 )
-    ensures { (out.new, svg.new) ≡ told_of o.now (subject_lists subject.now) starts.now answer out.old svg.old }
+    ensures { (out.new, svg.new) ≡ report_and_picture o.now (subject_lists subject.now) starts.now answer out.old svg.old }
 {
     let outcome = Outcome {
         subject: *subject,
@@ -78,10 +78,10 @@ fn refitted(
 }
 
 // More readings than 512 or than a list has, or more canisters than 32.
-#[tactic(auto, unfolding(crate::specs::Run::fault_of))]
+#[tactic(auto, unfolding(crate::specs::Run::readings_fault))]
 fn within_reach(readings: &Readings<'_>) -> Result<(), TableFault>
-    ensures value { result ≡ fault_of (read readings.now) }
-    ensures in_reach { IfOk result (λ _. InReach (read readings.now)) }
+    ensures value { result ≡ readings_fault (readings_lists readings.now) }
+    ensures in_reach { IfOk result (λ _. InReach (readings_lists readings.now)) }
 {
     let n = readings.doses.len();
     if n > READINGS || n > readings.grams.len() || n > readings.group.len() {
@@ -103,8 +103,8 @@ fn n_values(o: &Task) -> usize
 
 // The refit of readings that are in reach, and what is told of it.
 fn answer(o: &Task, readings: &Readings<'_>, out: &mut Text<'_>, svg: &mut Text<'_>)
-    requires { InReach (read readings.now) }
-    ensures { (out.new, svg.new) ≡ answered o.now (read readings.now) out.old svg.old }
+    requires { InReach (readings_lists readings.now) }
+    ensures { (out.new, svg.new) ≡ refit_told o.now (readings_lists readings.now) out.old svg.old }
 {
     let n = readings.doses.len();
     let k = n_values(o);
@@ -140,14 +140,14 @@ fn answer(o: &Task, readings: &Readings<'_>, out: &mut Text<'_>, svg: &mut Text<
 }
 
 // The refit of readings, told in words; a fault where the lists hold fewer readings or there are too many.
-#[tactic(auto, unfolding(crate::specs::Run::run_of))]
+#[tactic(auto, unfolding(crate::specs::Run::refit_run_of))]
 pub fn run(
     o: &Task,
     readings: &Readings<'_>,
     out: &mut Text<'_>,
     svg: &mut Text<'_>,
 ) -> Result<(), TableFault>
-    ensures { (result, out.new, svg.new) ≡ run_of o.now (read readings.now) out.old svg.old }
+    ensures { (result, out.new, svg.new) ≡ refit_run_of o.now (readings_lists readings.now) out.old svg.old }
 {
     within_reach(readings)?;
     answer(o, readings, out, svg);

@@ -2,11 +2,11 @@
 use Rattle.std.proofs.Common.{◌≡◌, take, replicate}
 use Rattle.std.proofs.lemmas.List.{take-replicate}
 use Rattle.math.specs.Basic.{zero}
-use Rattle.refit_run.specs.Run.{answered, answer_of}
+use Rattle.refit_run.specs.Run.{refit_told, refit_told_from}
 use Rattle.refit_run.proofs.answer.Goals as goal
 
 pub returns : goal.returns
-unfolding answered answer_of
+unfolding refit_told refit_told_from
 returns c =
     let k = c.n_values-k.result in
     let n = c.args.readings.now.canisters in
