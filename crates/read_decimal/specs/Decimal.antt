@@ -1,5 +1,6 @@
 -- What a decimal says: an optional sign, digits with at most one point, and an optional power of ten, `e` or `E` with an optional sign and digits.
 -- Every digit counts as significant but the zeros before the first other one: 0.000123 has three, 1.500 four.
+use Prim.Native.Char.{code}
 use Rattle.std.specs.Prelude.{ℕ, ◌+◌, ◌-◌, ◌^◌, Bool, cond, ◌&&◌, ◌||◌, List, ◌++◌, length, pos, ◌==◌, nat_le, nat_lt, Float, Result, Ok, Err}
 use Rattle.std.specs.Float.{binary64}
 use Rattle.std.specs.Float.Ieee.{of_int, neg}
@@ -10,26 +11,26 @@ use Rattle.read_decimal.specs.declared.DecimalError.{DecimalError}
 
 -- ---- the parts of a text, by their places
 
--- the digits before the point begin after a sign, `+` (43) or `-` (45)
+-- the digits before the point begin after a sign, `+` or `-`
 unfoldable pub whole_at : List ℕ → ℕ
-whole_at text = past_either 43 45 text 0
+whole_at text = past_either (code "+") (code "-") text 0
 
 unfoldable pub whole_end : List ℕ → ℕ
 whole_end text = digits_end text (whole_at text)
 
--- the digits after the point (46); without a point there are none
+-- the digits after the point; without a point there are none
 unfoldable pub fraction_at : List ℕ → ℕ
-fraction_at text = past_either 46 46 text (whole_end text)
+fraction_at text = past_either (code ".") (code ".") text (whole_end text)
 
 unfoldable pub fraction_end : List ℕ → ℕ
 fraction_end text = digits_end text (fraction_at text)
 
--- the power of ten comes after `E` (69) or `e` (101) and a sign
+-- the power of ten comes after `E` or `e` and a sign
 unfoldable pub power_at : List ℕ → ℕ
-power_at text = past_either 69 101 text (fraction_end text)
+power_at text = past_either (code "E") (code "e") text (fraction_end text)
 
 unfoldable pub power_digits_at : List ℕ → ℕ
-power_digits_at text = past_either 43 45 text (power_at text)
+power_digits_at text = past_either (code "+") (code "-") text (power_at text)
 
 unfoldable pub power_end : List ℕ → ℕ
 power_end text = digits_end text (power_digits_at text)
@@ -49,7 +50,7 @@ unfoldable pub is_decimal : List ℕ → Bool
 is_decimal text = has_digit text && ends_right text
 
 unfoldable pub is_negative : List ℕ → Bool
-is_negative text = stands 45 text 0
+is_negative text = stands (code "-") text 0
 
 -- all digits as one number, and how many of them stand after the point
 unfoldable pub mantissa_of : List ℕ → ℕ
@@ -64,7 +65,7 @@ unfoldable pub written_power : List ℕ → ℕ
 written_power text = digits_value (part (power_digits_at text) (power_end text - power_digits_at text) text)
 
 unfoldable pub is_power_negative : List ℕ → Bool
-is_power_negative text = stands 45 text (power_at text)
+is_power_negative text = stands (code "-") text (power_at text)
 
 -- the decimal is mantissa_of * 10 ^ up_of / 10 ^ down_of
 unfoldable pub up_of : List ℕ → ℕ

@@ -1,6 +1,7 @@
 // Places in a text: past a byte, past a run of digits, and the number that digits say.
 ghost use Rattle.std.specs.Prelude.{◌≡◌, ◌≤◌, ◌-◌, drop, length, take_while};
-ghost use Rattle.read_decimal.specs.Scan.{stands, past_either, is_digit, digits_end, digits_value_from, capped_value};
+ghost use Rattle.std.specs.Char.{is_ascii_digit};
+ghost use Rattle.read_decimal.specs.Scan.{stands, past_either, digits_end, digits_value_from, capped_value};
 
 // 10^15, the least number of 16 digits.
 pub const LIMIT: u64 = 1_000_000_000_000_000;
@@ -28,7 +29,7 @@ pub fn past(text: &[u8], at: usize, a: u8, b: u8) -> usize
 
 // How many digits stand from `at` on.
 fn digits_at(text: &[u8], at: usize) -> usize
-    ensures value { result ≡ length (take_while is_digit (drop at text.now)) }
+    ensures value { result ≡ length (take_while is_ascii_digit (drop at text.now)) }
     ensures upper_bound { result ≤ length text.now - at }
 {
     text.iter()

@@ -1,26 +1,27 @@
 -- The bytes that a table's reader looks for, and the place of the next one.
+use Prim.Native.Char.{code}
 use Rattle.std.specs.Prelude.{ℕ, ◌+◌, Bool, not, ◌&&◌, ◌||◌, List, ◌==◌, nat_le, nat_lt, length, drop, take_while, slice_index}
 use Rattle.std.specs.Char.{is_ascii_alphabetic, is_ascii_alphanumeric}
 use Rattle.read_table.specs.declared.classes.Stop.{Stop}
 
 -- a space, or a carriage return: one before the newline is dropped so, and one elsewhere counts as a space too
 abbrev pub is_space : ℕ → Bool
-is_space b = b == 32 || b == 13
+is_space b = b == code " " || b == code "\r"
 
 -- a comma, a semicolon or a tab
 abbrev pub is_separator : ℕ → Bool
-is_separator b = b == 44 || b == 59 || b == 9
+is_separator b = b == code "," || b == code ";" || b == code "\t"
 
 -- a letter, a digit, `-`, `.`, `_` or a byte above 127
 abbrev pub is_name_byte : ℕ → Bool
-is_name_byte b = is_ascii_alphanumeric b || b == 45 || b == 46 || b == 95 || nat_le 128 b
+is_name_byte b = is_ascii_alphanumeric b || b == code "-" || b == code "." || b == code "_" || nat_le 128 b
 
--- whether a byte is what is looked for: `"` is 34, a newline 10, `#` 35, a comma 44
+-- whether a byte is what is looked for
 abbrev pub stops_at : Stop → ℕ → Bool
-stops_at Stop.Quote b = b == 34
-stops_at Stop.Newline b = b == 10
-stops_at Stop.Comment b = b == 35
-stops_at Stop.Comma b = b == 44
+stops_at Stop.Quote b = b == code "\""
+stops_at Stop.Newline b = b == code "\n"
+stops_at Stop.Comment b = b == code "#"
+stops_at Stop.Comma b = b == code ","
 stops_at Stop.Separator b = is_separator b
 stops_at Stop.Letter b = is_ascii_alphabetic b
 stops_at Stop.EndOfSpaces b = not (is_space b)

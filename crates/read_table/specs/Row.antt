@@ -1,4 +1,5 @@
 -- One line of a table: three fields, dose, grams and canister, apart by a comma, a semicolon or a tab with spaces around, or by spaces alone.
+use Prim.Native.Char.{code}
 use Rattle.std.specs.Prelude.{ℕ, ◌+◌, ◌-◌, ◌≤◌, Bool, not, ◌&&◌, ◌||◌, cond, List, ◌==◌, nat_le, nat_lt, length, Float, Option, Some, None, Result, Ok, Err}
 use Rattle.std.specs.List.{list_all, list_any}
 use Rattle.math.specs.Parts.{part}
@@ -52,7 +53,7 @@ is_canister_name name = nat_lt 0 (length name) && nat_le (length name) 32 && lis
 
 -- whether a field's bytes hold a comma, as quotes allow
 unfoldable pub comma_in : List ℕ → Bool
-comma_in field = list_any (λ b. b == 44) field
+comma_in field = list_any (λ b. b == code ",") field
 
 -- A decimal comma: one inside a number, or one that separates on one side of the grams and not on the other, as in `118;30,5;a` and `1,5 2,5 a`.
 -- All commas are separators in `1,5,2,5,a`, where nothing tells them apart.

@@ -122,9 +122,13 @@ lines_of zero text s = (Ok tt, s)
 lines_of (suc n) text s =
     let more = unless_fault (lines_of n text) (next_line text s) in cond (nat_lt s.at (length text)) more (Ok tt, s)
 
--- the place after a byte order mark, EF BB BF
+-- U+FEFF in UTF-8
+abbrev pub byte_order_mark : List ℕ
+byte_order_mark = 0xEF ∷ 0xBB ∷ 0xBF ∷ []
+
+-- the place after a byte order mark
 unfoldable pub after_mark : List ℕ → ℕ
-after_mark text = cond (bytes_eq (take 3 text) (239 ∷ 187 ∷ 191 ∷ [])) 3 0
+after_mark text = cond (bytes_eq (take 3 text) byte_order_mark) 3 0
 
 unfoldable pub table_of : List ℕ → List Float → List Float → List ℕ → List Span → WithFault TableState
 table_of text doses grams groups names =

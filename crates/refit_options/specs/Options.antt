@@ -1,4 +1,5 @@
 -- The words of the command line, one after the other.
+use Prim.Native.Char.{code}
 use Rattle.std.specs.Prelude.{ℕ, ◌+◌, ◌-◌, ◌*◌, Bool, true, false, ◌&&◌, ◌||◌, cond, List, [], ◌∷◌, ◌==◌, nat_le, nat_lt, length, drop, find, slice_index, codes, Option, Some, None, Result, Ok, Err, is_some, unwrap_or}
 use Rattle.std.specs.Borrow.{Bor}
 use Rattle.std.specs.Char.{is_ascii_digit}
@@ -54,8 +55,8 @@ up_to_11 n = cond (nat_le n 11) (Some n) None
 
 unfoldable pub order_named : List ℕ → Option ℕ
 order_named [] = None
-order_named (b ∷ []) = cond (is_ascii_digit b) (up_to_11 (b - 48)) None
-order_named (a ∷ b ∷ []) = cond (is_ascii_digit a && is_ascii_digit b) (up_to_11 ((a - 48) * 10 + (b - 48))) None
+order_named (b ∷ []) = cond (is_ascii_digit b) (up_to_11 (b - code "0")) None
+order_named (a ∷ b ∷ []) = cond (is_ascii_digit a && is_ascii_digit b) (up_to_11 ((a - code "0") * 10 + (b - code "0"))) None
 order_named (a ∷ b ∷ c ∷ w) = None
 
 -- a name before .svg
@@ -93,7 +94,7 @@ awaited_of o Wanted.Start word = Ok (record o { awaits = None; start = Some word
 -- the file's name: not empty, without a `-` before it, and the only one
 unfoldable pub file_of : Asked → LentWord → Result Asked OptionError
 file_of o word =
-    cond (length word.now == 0 || slice_index word.now 0 == 45) (refused_word word OptionFault.NoSuchOption)
+    cond (length word.now == 0 || slice_index word.now 0 == code "-") (refused_word word OptionFault.NoSuchOption)
     (cond (is_some o.file) (refused_word word OptionFault.SecondFile) (Ok (record o { file = Some word })))
 
 abbrev pub with_flag : Asked → Flag → LentWord → Asked

@@ -1,4 +1,5 @@
 -- Text inside an XML element, and texts one after the other.
+use Prim.Native.Char.{code}
 use Rattle.std.specs.Prelude.{ℕ, cond, List, [], ◌∷◌, ◌++◌, eqb, ltb, ◌||◌, codes}
 use Rattle.math.specs.Loops.{iter}
 
@@ -9,8 +10,8 @@ each_text f n = iter (λ i t. t ++ f i) n []
 -- the names of the four characters that XML keeps for itself, `?` for what ASCII does not print; any other byte stands for itself
 unfoldable pub escaped_byte : ℕ → List ℕ
 escaped_byte b =
-    cond (eqb b 38) (codes "&amp;")
-    (cond (eqb b 60) (codes "&lt;")
-    (cond (eqb b 62) (codes "&gt;")
-    (cond (eqb b 34) (codes "&quot;")
-    (cond (ltb b 32 || ltb 126 b) (codes "?") (b ∷ [])))))
+    cond (eqb b (code "&")) (codes "&amp;")
+    (cond (eqb b (code "<")) (codes "&lt;")
+    (cond (eqb b (code ">")) (codes "&gt;")
+    (cond (eqb b (code "\"")) (codes "&quot;")
+    (cond (ltb b (code " ") || ltb (code "~") b) (codes "?") (b ∷ [])))))

@@ -1,4 +1,5 @@
 -- A float in decimal digits, as text for a person.
+use Prim.Native.Char.{code}
 use Rattle.std.specs.Prelude.{ℕ, zero, suc, ◌+◌, ◌*◌, ◌/◌, ◌%◌, ◌^◌, cond, ◌&&◌, List, [], ◌∷◌, ◌++◌, ℤ, pos, neg_ℤ, ◌+ℤ◌, int_lt, unsigned_abs, ◌==◌, nat_le, nat_lt, Float, is_nan, codes}
 use Rattle.std.specs.List.{position}
 use Rattle.std.specs.Option.{unwrap_or}
@@ -23,7 +24,7 @@ nearest_whole (fin s m e) = let n = (2 * (m * up e) + down e) / (2 * down e) in 
 -- the last k digits of n
 unfoldable pub last_digits : ℕ → ℕ → List ℕ
 last_digits zero n = []
-last_digits (suc k) n = (48 + n / 10 ^ k % 10) ∷ last_digits k n
+last_digits (suc k) n = (code "0" + n / 10 ^ k % 10) ∷ last_digits k n
 
 -- n / 10 ^ d with d decimals: the digits before the point, and the point and d digits where there are any
 unfoldable pub fraction_text : ℕ → ℕ → List ℕ

@@ -1,4 +1,5 @@
 -- Text in columns, a word of a table, and a line with numbers in it.
+use Prim.Native.Char.{code}
 use Rattle.std.specs.Prelude.{ℕ, ◌-◌, Bool, true, false, ◌||◌, cond, List, [], ◌∷◌, ◌++◌, eqb, Float, length, take, drop, replicate, get_or, codes}
 use Rattle.text_buffer.specs.Text.{whole_text}
 use Rattle.text_floats.specs.Floats.{fixed_text, figure_text}
@@ -6,7 +7,7 @@ use Rattle.text_floats.specs.Floats.{fixed_text, figure_text}
 -- ---- columns: a text at the right or the left of a width, spaces beside it; a wider text stands as it is
 
 abbrev pub spaces : ℕ → List ℕ
-spaces k = replicate k 32
+spaces k = replicate k (code " ")
 
 unfoldable pub right_text : ℕ → List ℕ → List ℕ
 right_text width t = spaces (width - length t) ++ t
@@ -35,15 +36,15 @@ one_decimal x = fixed_text x 1
 
 unfoldable pub for_mark : ℕ → List ℕ → List Float → List ℕ
 for_mark c ns xs =
-    cond (eqb c 110) (next_number whole_text ns)
-    (cond (eqb c 103) (next_number figure_text xs) (cond (eqb c 49) (next_number one_decimal xs) (c ∷ [])))
+    cond (eqb c (code "n")) (next_number whole_text ns)
+    (cond (eqb c (code "g")) (next_number figure_text xs) (cond (eqb c (code "1")) (next_number one_decimal xs) (c ∷ [])))
 
 -- the numbers that a mark leaves
 unfoldable pub wholes_after : ℕ → List ℕ → List ℕ
-wholes_after c ns = cond (eqb c 110) (drop 1 ns) ns
+wholes_after c ns = cond (eqb c (code "n")) (drop 1 ns) ns
 
 unfoldable pub floats_after : ℕ → List Float → List Float
-floats_after c xs = cond (eqb c 103 || eqb c 49) (drop 1 xs) xs
+floats_after c xs = cond (eqb c (code "g") || eqb c (code "1")) (drop 1 xs) xs
 
 -- the text of a template, after `%` or not
 unfoldable pub fill_from : Bool → List ℕ → List ℕ → List Float → List ℕ
@@ -52,7 +53,7 @@ fill_from true (c ∷ t) ns xs = for_mark c ns xs ++ fill_from false t (wholes_a
 fill_from false (b ∷ t) ns xs =
     let mark = fill_from true t ns xs in
     let rest = fill_from false t ns xs in
-    cond (eqb b 37) mark (b ∷ rest)
+    cond (eqb b (code "%")) mark (b ∷ rest)
 
 abbrev pub template_text : List ℕ → List ℕ → List Float → List ℕ
 template_text t ns xs = fill_from false t ns xs
