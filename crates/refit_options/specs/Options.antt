@@ -5,8 +5,10 @@ use Rattle.std.specs.Borrow.{Bor}
 use Rattle.std.specs.Char.{is_ascii_digit}
 use Rattle.std.specs.List.{list_any}
 use Rattle.std.specs.Str.{str_eq_ignore_ascii_case}
+use Rattle.text_buffer.specs.Text.{joined}
 use Rattle.curves.specs.declared.mean_fn.Curve.{Curve}
 use Rattle.curves.specs.MeanFn.{code_of}
+use Rattle.svg_axes.specs.Subject.{curve_name}
 use Rattle.refit_options.specs.declared.options.OptionFault.{OptionFault}
 use Rattle.refit_options.specs.declared.options.OptionError.{OptionError}
 use Rattle.refit_options.specs.declared.options.Wanted.{Wanted}
@@ -161,7 +163,17 @@ command_at_end o = command_at_end_from o o.awaits
 unfoldable pub option_fault_text : OptionFault → List ℕ
 option_fault_text OptionFault.NoSuchOption = codes "no such option; 'refit help' tells them"
 option_fault_text OptionFault.WordMissing = codes "this option wants a word after it; 'refit help' tells which"
-option_fault_text OptionFault.NoSuchCurve = codes "no such curve; there are SSlogis, SSasymp, SSmicmen and SSfpl"
+option_fault_text OptionFault.NoSuchCurve =
+    joined (
+    codes "no such curve; there are "
+    ∷ curve_name 1
+    ∷ codes ", "
+    ∷ curve_name 2
+    ∷ codes ", "
+    ∷ curve_name 3
+    ∷ codes " and "
+    ∷ curve_name 4
+    ∷ [])
 option_fault_text OptionFault.NoSuchValue = codes "no curve has a value of this name; 'refit help' tells the names"
 option_fault_text OptionFault.NotOfTheCurve = codes "the effect is not a value of the curve; 'refit help' tells the names"
 option_fault_text OptionFault.NotAnOrder = codes "the order of quadrature is a whole number from 0 to 11"

@@ -1,4 +1,4 @@
--- Names and meanings in words. The values of the curves have the names that R's users know.
+-- What a word names, and meanings in words.
 use Rattle.std.specs.Prelude.{ℕ, Bool, cond, List, [], ◌∷◌, ◌++◌, ◌==◌, find, position, slice_index_or, codes, Option, Some, None, is_some}
 use Rattle.std.specs.List.{list_any}
 use Rattle.std.specs.Str.{str_eq_ignore_ascii_case}
@@ -7,43 +7,41 @@ use Rattle.curves.specs.declared.mean_fn.Curve.{Curve}
 use Rattle.curves.specs.MeanFn.{code_of}
 use Rattle.refusal.specs.declared.Refusal.{Refusal}
 use Rattle.read_table.specs.declared.fault.TableFault.{TableFault}
-use Rattle.svg_axes.specs.Subject.{curve_name}
-
--- the names of a curve's values
-unfoldable pub value_names : ℕ → List (List ℕ)
-value_names code =
-    cond (code == 1) (codes "Asym" ∷ codes "xmid" ∷ codes "scal" ∷ [])
-    (cond (code == 2) (codes "Asym" ∷ codes "R0" ∷ codes "lrc" ∷ [])
-    (cond (code == 3) (codes "Vm" ∷ codes "K" ∷ [])
-    (cond (code == 4) (codes "A" ∷ codes "B" ∷ codes "xmid" ∷ codes "scal" ∷ []) [])))
+use Rattle.svg_axes.specs.Subject.{curve_name, value_names}
 
 -- the place of a name among those of a curve's values
 unfoldable pub value_place : ℕ → List ℕ → Option ℕ
 value_place code word = position (λ name. str_eq_ignore_ascii_case name word) (value_names code)
 
+abbrev pub every_curve : List Curve
+every_curve = Curve.Sslogis ∷ Curve.Ssasymp ∷ Curve.Ssmicmen ∷ Curve.Ssfpl ∷ []
+
 -- a word names a value of some curve, in capitals or small letters
 unfoldable pub is_value_name : List ℕ → Bool
-is_value_name word =
-    list_any (λ curve. is_some (value_place (code_of curve) word)) (Curve.Sslogis ∷ Curve.Ssasymp ∷ Curve.Ssmicmen ∷ Curve.Ssfpl ∷ [])
+is_value_name word = list_any (λ curve. is_some (value_place (code_of curve) word)) every_curve
 
 -- a word is a curve's name
 abbrev pub is_curve_name : List ℕ → Curve → Bool
 is_curve_name word curve = str_eq_ignore_ascii_case (curve_name (code_of curve)) word
 
 unfoldable pub curve_named : List ℕ → Option Curve
-curve_named word = find (is_curve_name word) (Curve.Sslogis ∷ Curve.Ssasymp ∷ Curve.Ssmicmen ∷ Curve.Ssfpl ∷ [])
+curve_named word = find (is_curve_name word) every_curve
 
 -- the name of value i of a curve
 unfoldable pub value_name_text : ℕ → ℕ → List ℕ
 value_name_text code i = slice_index_or (value_names code) i (codes "?")
 
+-- what a curve says that the grams are, by its code
+unfoldable pub equation : ℕ → List ℕ
+equation code =
+    cond (code == 1) (codes "Asym / (1 + exp((xmid - dose) / scal))")
+    (cond (code == 2) (codes "Asym + (R0 - Asym) * exp(-exp(lrc) * dose)")
+    (cond (code == 3) (codes "Vm * dose / (K + dose)")
+    (cond (code == 4) (codes "A + (B - A) / (1 + exp((xmid - dose) / scal))") [])))
+
 -- a curve's name and its equation
 unfoldable pub curve_equation_text : ℕ → List ℕ
-curve_equation_text code =
-    cond (code == 1) (codes "SSlogis: grams = Asym / (1 + exp((xmid - dose) / scal))")
-    (cond (code == 2) (codes "SSasymp: grams = Asym + (R0 - Asym) * exp(-exp(lrc) * dose)")
-    (cond (code == 3) (codes "SSmicmen: grams = Vm * dose / (K + dose)")
-    (cond (code == 4) (codes "SSfpl: grams = A + (B - A) / (1 + exp((xmid - dose) / scal))") [])))
+curve_equation_text code = curve_name code ++ (codes ": grams = " ++ equation code)
 
 -- what it means that the library refuses
 unfoldable pub refusal_text : Refusal → List ℕ

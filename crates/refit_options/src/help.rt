@@ -14,7 +14,7 @@ fn beginning(out: &mut Text<'_>)
     );
 }
 
-#[tactic(auto, unfolding(crate::specs::Help::fit_options_text))]
+#[tactic(auto, unfolding(text_buffer::specs::Text::joined, text_lines::specs::Lines::left_text, svg_axes::specs::Subject::value_names, crate::specs::Words::value_name_text, crate::specs::Words::equation, crate::specs::Help::curve_option_text, crate::specs::Help::start_names_text, crate::specs::Help::fit_options_text))]
 fn fit_options(out: &mut Text<'_>)
     ensures { out.new ≡ wrote out.old fit_options_text }
 {

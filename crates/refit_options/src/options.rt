@@ -326,7 +326,7 @@ impl<'a> Asked<'a> {
     }
 }
 
-#[tactic(auto, unfolding(crate::specs::Options::option_fault_text))]
+#[tactic(auto, unfolding(text_buffer::specs::Text::joined, crate::specs::Options::option_fault_text))]
 fn fault_words(fault: OptionFault) -> &'static [u8]
     ensures { result.now ≡ option_fault_text fault }
 {

@@ -1,13 +1,13 @@
-// Names and meanings in words. The values of the curves have the names that R's users know.
-ghost use Rattle.std.specs.Prelude.{◌≡◌, map};
+// What a word names, and meanings in words.
+ghost use Rattle.std.specs.Prelude.{◌≡◌};
 ghost use Rattle.curves.specs.MeanFn.{code_of};
 ghost use Rattle.text_buffer.specs.Text.{wrote};
-ghost use Rattle.refit_options.specs.Words.{is_value_name, value_names, value_place, is_curve_name, curve_named, value_name_text, curve_equation_text, refusal_text, table_fault_text, line_fault_text};
+ghost use Rattle.refit_options.specs.Words.{is_value_name, value_place, is_curve_name, curve_named, value_name_text, equation, curve_equation_text, refusal_text, table_fault_text, line_fault_text};
 
 use curves::Curve;
 use read_table::fault::TableFault;
 use refusal::Refusal;
-use svg_axes::subject::curve_name;
+use svg_axes::subject::{curve_name, value_names};
 use text_buffer::Text;
 use text_lines::same::{find_word, same_word};
 
@@ -18,25 +18,12 @@ const CURVES: [Curve; 4] = [
     Curve::Ssfpl,
 ];
 
-// The names of a curve's values.
-#[tactic(auto, unfolding(crate::specs::Words::value_names))]
-fn names(curve: Curve) -> &'static [&'static [u8]]
-    ensures { map (λ w. w.now) result.now ≡ value_names (code_of curve) }
-{
-    match curve {
-        Curve::Sslogis => &[b"Asym", b"xmid", b"scal"],
-        Curve::Ssasymp => &[b"Asym", b"R0", b"lrc"],
-        Curve::Ssmicmen => &[b"Vm", b"K"],
-        Curve::Ssfpl => &[b"A", b"B", b"xmid", b"scal"],
-    }
-}
-
 // The place of a name among those of a curve's values.
 #[tactic(auto, unfolding(crate::specs::Words::value_place))]
 pub fn place_of(curve: Curve, word: &[u8]) -> Option<usize>
     ensures { result ≡ value_place (code_of curve) word.now }
 {
-    find_word(names(curve), word)
+    find_word(value_names(curve), word)
 }
 
 // Whether a word names a value of some curve.
@@ -66,19 +53,19 @@ pub fn curve_named(word: &[u8]) -> Option<Curve>
 pub fn name(out: &mut Text<'_>, curve: Curve, i: usize)
     ensures { out.new ≡ wrote out.old (value_name_text (code_of curve) i) }
 {
-    out.put(names(curve).get(i).copied().unwrap_or(b"?"));
+    out.put(value_names(curve).get(i).copied().unwrap_or(b"?"));
 }
 
-// The name within its line, as it is printed: put apart they would be two texts, here and in the definition.
-#[tactic(auto, unfolding(crate::specs::Words::curve_equation_text))]
-fn curve_words(curve: Curve) -> &'static [u8]
-    ensures { result.now ≡ curve_equation_text (code_of curve) }
+// What the curve says that the grams are.
+#[tactic(auto, unfolding(crate::specs::Words::equation))]
+fn equation(curve: Curve) -> &'static [u8]
+    ensures { result.now ≡ equation (code_of curve) }
 {
     match curve {
-        Curve::Sslogis => b"SSlogis: grams = Asym / (1 + exp((xmid - dose) / scal))",
-        Curve::Ssasymp => b"SSasymp: grams = Asym + (R0 - Asym) * exp(-exp(lrc) * dose)",
-        Curve::Ssmicmen => b"SSmicmen: grams = Vm * dose / (K + dose)",
-        Curve::Ssfpl => b"SSfpl: grams = A + (B - A) / (1 + exp((xmid - dose) / scal))",
+        Curve::Sslogis => b"Asym / (1 + exp((xmid - dose) / scal))",
+        Curve::Ssasymp => b"Asym + (R0 - Asym) * exp(-exp(lrc) * dose)",
+        Curve::Ssmicmen => b"Vm * dose / (K + dose)",
+        Curve::Ssfpl => b"A + (B - A) / (1 + exp((xmid - dose) / scal))",
     }
 }
 
@@ -86,7 +73,9 @@ fn curve_words(curve: Curve) -> &'static [u8]
 pub fn curve(out: &mut Text<'_>, curve: Curve)
     ensures { out.new ≡ wrote out.old (curve_equation_text (code_of curve)) }
 {
-    out.put(curve_words(curve));
+    out.put(curve_name(curve));
+    out.put(b": grams = ");
+    out.put(equation(curve));
 }
 
 #[tactic(auto, unfolding(crate::specs::Words::refusal_text))]

@@ -1,11 +1,11 @@
 -- The report: what was asked, the start values, theta, the fit, and then the tables.
-use Rattle.std.specs.Prelude.{ℕ, Bool, false, cond, List, [], ◌∷◌, eqb, ltb, Float, length, is_some, Result, Ok, Err, codes}
+use Rattle.std.specs.Prelude.{ℕ, Bool, false, cond, List, [], ◌∷◌, ◌++◌, eqb, ltb, Float, length, drop, is_some, Result, Ok, Err, codes}
 use Rattle.math.specs.Basic.{mul}
 use Rattle.math.specs.Sqrt.{sqrt_of}
 use Rattle.refusal.specs.Refusal.{number_of}
 use Rattle.text_buffer.specs.Text.{joined}
-use Rattle.text_lines.specs.Lines.{template_text}
-use Rattle.svg_axes.specs.Subject.{SubjectLists}
+use Rattle.text_lines.specs.Lines.{left_text, template_text}
+use Rattle.svg_axes.specs.Subject.{SubjectLists, value_names}
 use Rattle.refit_calculation.specs.declared.Answer.{Answer}
 use Rattle.refit_calculation.specs.declared.Refused.{Refused}
 use Rattle.refit_calculation.specs.declared.Step.{Step}
@@ -48,25 +48,32 @@ report_beginning_text o s warned =
 
 -- ---- start values, and a curve's values
 
--- a line for each value of the curve
-unfoldable pub value_lines : ℕ → List ℕ
-value_lines code =
-    cond (eqb code 1) (codes "  Asym          %g\n  xmid          %g\n  scal          %g\n")
-    (cond (eqb code 2) (codes "  Asym          %g\n  R0            %g\n  lrc           %g\n")
-    (cond (eqb code 3) (codes "  Vm            %g\n  K             %g\n")
-    (codes "  A             %g\n  B             %g\n  xmid          %g\n  scal          %g\n")))
+-- a line for each value of the curve: its name, and the next number, `?` where none is left
+unfoldable pub value_line : List ℕ → List Float → List ℕ
+value_line name left = joined (codes "  " ∷ left_text 14 name ∷ template_text (codes "%g\n") [] left ∷ [])
+
+unfoldable pub value_lines : List (List ℕ) → List Float → List ℕ
+value_lines [] left = []
+value_lines (name ∷ names) left = value_line name left ++ value_lines names (drop 1 left)
 
 unfoldable pub values_text : ℕ → List Float → List ℕ
-values_text code values = template_text (value_lines code) [] values
+values_text code values = value_lines (value_names code) values
 
 -- which start values were not taken as the self-start answers them, and why
 unfoldable pub note_text : ℕ → List ℕ
 note_text code =
     cond (eqb code 1)
-    (codes
-    "  Note: for readings that rise the self-start answers this scal with a minus sign, from which a fit ends in a step.\n  The sign was turned here before the search.\n")
-    (codes
-    "  Note: the self-start answers lrc as a rate, ln 2 by the dose at half of the way, and the curve takes the rate's logarithm.\n  The logarithm was taken here before the search.\n")
+    (joined (
+    codes "  Note: for readings that rise the self-start answers this "
+    ∷ value_name_text 1 2
+    ∷ codes " with a minus sign, from which a fit ends in a step.\n  The sign was turned here before the search.\n"
+    ∷ []))
+    (joined (
+    codes "  Note: the self-start answers "
+    ∷ value_name_text 2 2
+    ∷ codes
+    " as a rate, ln 2 by the dose at half of the way, and the curve takes the rate's logarithm.\n  The logarithm was taken here before the search.\n"
+    ∷ []))
 
 unfoldable pub starts_text : ℕ → Bool → Bool → List Float → List ℕ
 starts_text code given adjusted starts =

@@ -3,12 +3,12 @@
 
 pub mod beginning;
 
-ghost use Rattle.std.specs.Prelude.{◌≡◌};
+ghost use Rattle.std.specs.Prelude.{◌≡◌, drop};
 ghost use Rattle.curves.specs.MeanFn.{code_of};
 ghost use Rattle.text_buffer.specs.Text.{wrote};
 ghost use Rattle.svg_axes.specs.Subject.{subject_lists};
 ghost use Rattle.refit_warnings.specs.Warnings.{findings_lists};
-ghost use Rattle.refit_report.specs.Report.{value_lines, values_text, note_text, starts_text, report_theta_text, spread_of, spread_text, converged_text, fit_text, report_curve_text, warnings_section_text, warnings_text, step_text, refused_text, results_text, told_text, begun_text, without_text, report_text};
+ghost use Rattle.refit_report.specs.Report.{value_line, values_text, note_text, starts_text, report_theta_text, spread_of, spread_text, converged_text, fit_text, report_curve_text, warnings_section_text, warnings_text, step_text, refused_text, results_text, told_text, begun_text, without_text, report_text};
 
 use crate::beginning::{beginning, either, when};
 use curves::Curve;
@@ -18,33 +18,41 @@ use refit_options::words::{name, refusal};
 use refit_tables::{canisters, readings};
 use refit_warnings::findings::{Findings, Outcome};
 use refit_warnings::told::{first, lines};
-use svg_axes::subject::Subject;
+use svg_axes::subject::{Subject, value_names};
 use text_buffer::Text;
+use text_lines::columns;
 use text_lines::template::fill;
 
-// A line for each value of the curve: a template as it is printed, the names with their column's width.
-#[tactic(auto, unfolding(crate::specs::Report::value_lines))]
-fn value_lines(curve: Curve) -> &'static [u8]
-    ensures { result.now ≡ value_lines (code_of curve) }
+// A value's line: its name, and the first of the numbers that are left.
+#[tactic(auto, using(text_buffer::specs::laws::Text::writing), unfolding(crate::specs::Report::value_line))]
+fn value_line(out: &mut Text<'_>, name: &[u8], left: &[f64])
+    ensures { out.new ≡ wrote out.old (value_line name.now left.now) }
 {
-    match curve {
-        Curve::Sslogis => b"  Asym          %g\n  xmid          %g\n  scal          %g\n",
-        Curve::Ssasymp => b"  Asym          %g\n  R0            %g\n  lrc           %g\n",
-        Curve::Ssmicmen => b"  Vm            %g\n  K             %g\n",
-        Curve::Ssfpl =>
-            b"  A             %g\n  B             %g\n  xmid          %g\n  scal          %g\n",
-    }
+    out.put(b"  ");
+    columns::left(out, 14, name);
+    fill(out, b"%g\n", &[], left);
 }
 
-#[tactic(auto, unfolding(crate::specs::Report::values_text))]
+fn after_first(numbers: &[f64]) -> &[f64]
+    ensures { result.now ≡ drop 1 numbers.now }
+{
+    &numbers[numbers.len().min(1)..]
+}
+
+#[tactic(auto, using(crate::proofs::Laws::lines), unfolding(crate::specs::Report::values_text))]
 fn values_of(out: &mut Text<'_>, curve: Curve, values: &[f64])
     ensures { out.new ≡ wrote out.old (values_text (code_of curve) values.now) }
 {
-    fill(out, value_lines(curve), &[], values);
+    let names = value_names(curve);
+    let mut left = values;
+    for &name in names {
+        value_line(out, name, left);
+        left = after_first(left);
+    }
 }
 
 // Which start value was not taken as the self-start answers it, and why.
-#[tactic(auto, unfolding(crate::specs::Report::note_text))]
+#[tactic(auto, unfolding(text_buffer::specs::Text::joined, svg_axes::specs::Subject::value_names, refit_options::specs::Words::value_name_text, crate::specs::Report::note_text))]
 fn note(curve: Curve) -> &'static [u8]
     ensures { result.now ≡ note_text (code_of curve) }
 {

@@ -1,13 +1,14 @@
 -- The two tables of a report: each canister's own curve, and each reading beside its curve.
 use Rattle.std.specs.Prelude.{ℕ, ◌-◌, cond, List, [], ◌∷◌, eqb, Float, length, get_or, slice_index, codes}
+use Rattle.std.specs.List.{flat_map}
 use Rattle.std.specs.Float.{nan}
 use Rattle.std.specs.Float.Ieee.{lt}
 use Rattle.math.specs.Basic.{add, sub, bits, abs_of}
 use Rattle.math.specs.Lists.{largest_of}
 use Rattle.text_buffer.specs.Text.{joined}
-use Rattle.text_lines.specs.Lines.{left_text, cell_text}
+use Rattle.text_lines.specs.Lines.{left_text, right_text, cell_text}
 use Rattle.text_floats.specs.Floats.{decimals_of, fixed_text, figure_text}
-use Rattle.svg_axes.specs.Subject.{SubjectLists, canister_name}
+use Rattle.svg_axes.specs.Subject.{SubjectLists, canister_name, value_names}
 use Rattle.svg_axes.specs.Ranges.{canister_curve_at}
 use Rattle.svg_marks.specs.Escape.{each_text}
 
@@ -43,24 +44,15 @@ row_with_effect s effect g =
 unfoldable pub canister_row : SubjectLists → ℕ → List ℕ
 canister_row s g = row_with_effect s (get_or s.effects g nan) g
 
--- what stands over the values of each curve, by its code, from 1
-abbrev pub heads : List (List ℕ)
-heads =
-    []
-    ∷ codes "         Asym         xmid         scal"
-    ∷ codes "         Asym           R0          lrc"
-    ∷ codes "           Vm            K"
-    ∷ codes "            A            B         xmid         scal"
-    ∷ []
-
-abbrev pub heads_of : ℕ → List ℕ
-heads_of code = get_or heads code []
+-- over the values their names
+unfoldable pub heads_text : ℕ → List ℕ
+heads_text code = flat_map (right_text 13) (value_names code)
 
 unfoldable pub canisters_table_text : SubjectLists → List ℕ
 canisters_table_text s =
     joined (
     codes "\nEach canister's own curve\n  canister             effect"
-    ∷ heads_of s.code
+    ∷ heads_text s.code
     ∷ codes "\n"
     ∷ each_text (canister_row s) (length s.effects)
     ∷ [])

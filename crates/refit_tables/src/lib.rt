@@ -6,11 +6,11 @@ ghost use Rattle.curves.specs.MeanFn.{code_of};
 ghost use Rattle.text_buffer.specs.Text.{wrote};
 ghost use Rattle.svg_axes.specs.Subject.{subject_lists};
 ghost use Rattle.svg_marks.specs.Escape.{each_text};
-ghost use Rattle.refit_tables.specs.Tables.{name_cell_text, first_column_text, decimals_for, own_value_text, own_text, row_with_effect, canister_row, heads_of, canisters_table_text, reading_row, reading_rows, readings_table_text};
+ghost use Rattle.refit_tables.specs.Tables.{name_cell_text, first_column_text, decimals_for, own_value_text, own_text, row_with_effect, canister_row, heads_text, canisters_table_text, reading_row, reading_rows, readings_table_text};
 
 use curves::Curve;
 use svg_axes::curve_at;
-use svg_axes::subject::Subject;
+use svg_axes::subject::{Subject, value_names};
 use text_buffer::Text;
 use text_floats::decimals;
 use text_lines::columns;
@@ -81,15 +81,14 @@ fn canister_rows(out: &mut Text<'_>, s: &Subject<'_>)
     }
 }
 
-// What stands over the values, as it is printed: put together of the names it would be a loop, and its definition another.
-fn heads(curve: Curve) -> &'static [u8]
-    ensures { result.now ≡ heads_of (code_of curve) }
+// Over the values their names.
+#[tactic(auto, using(std::proofs::lemmas::Grind::common_steps, text_buffer::specs::laws::Text::writing))]
+fn heads(out: &mut Text<'_>, curve: Curve)
+    ensures { out.new ≡ wrote out.old (heads_text (code_of curve)) }
 {
-    match curve {
-        Curve::Sslogis => b"         Asym         xmid         scal",
-        Curve::Ssasymp => b"         Asym           R0          lrc",
-        Curve::Ssmicmen => b"           Vm            K",
-        Curve::Ssfpl => b"            A            B         xmid         scal",
+    let names = value_names(curve);
+    for &name in names {
+        columns::right(out, 13, name);
     }
 }
 
@@ -97,7 +96,7 @@ pub fn canisters(out: &mut Text<'_>, s: &Subject<'_>)
     ensures { out.new ≡ wrote out.old (canisters_table_text (subject_lists s.now)) }
 {
     out.put(b"\nEach canister's own curve\n  canister             effect");
-    out.put(heads(s.curve));
+    heads(out, s.curve);
     out.put(b"\n");
     canister_rows(out, s);
 }

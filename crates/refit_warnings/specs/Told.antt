@@ -16,7 +16,7 @@ unfoldable pub what_of : Warning → List ℕ
 what_of (Unmoved i) = codes " did not move from its start"
 what_of Search = codes "The search over theta did not converge"
 what_of Fit = codes "The fit did not converge"
-what_of Step = codes "scal ended at its floor, 1e-06: the curve is a step"
+what_of Step = value_name_text 1 2 ++ codes " ended at its floor, 1e-06: the curve is a step"
 what_of Nothing = codes "The curve comes no nearer to the readings than a constant for each canister: it explains nothing"
 what_of Few = codes "There are no more readings than values to be found, or fewer doses than the curve has values"
 what_of Low = codes "theta lies at the lower end of the searched range: the best theta may be smaller"

@@ -29,7 +29,7 @@ const ALL: [Warning; 13] = [
 ];
 
 // What is wrong; of a value that did not move its name stands before.
-#[tactic(auto, unfolding(crate::specs::Told::what_of))]
+#[tactic(auto, unfolding(svg_axes::specs::Subject::value_names, refit_options::specs::Words::value_name_text, crate::specs::Told::what_of))]
 fn what(warning: Warning) -> &'static [u8]
     ensures { result.now ≡ what_of warning }
 {

@@ -1,5 +1,5 @@
 -- What a report and a picture are about: a Subject of the code with its slices' lists, and its curve's code.
-use Rattle.std.specs.Prelude.{ℕ, List, [], ◌∷◌, get_or, slice_get, Float, Option, Some, None, codes}
+use Rattle.std.specs.Prelude.{ℕ, cond, List, [], ◌∷◌, ◌==◌, get_or, slice_get, Float, Option, Some, None, codes}
 use Rattle.std.proofs.Math.Seq.{slice}
 use Rattle.text_buffer.specs.declared.Span.{Span}
 use Rattle.curves.specs.MeanFn.{code_of}
@@ -40,3 +40,11 @@ canister_name s g = name_in s.text (slice_get s.names g)
 -- a curve's name, by its code, from 1
 abbrev pub curve_name : ℕ → List ℕ
 curve_name code = get_or ([] ∷ codes "SSlogis" ∷ codes "SSasymp" ∷ codes "SSmicmen" ∷ codes "SSfpl" ∷ []) code []
+
+-- the names of a curve's values, which R's users know
+unfoldable pub value_names : ℕ → List (List ℕ)
+value_names code =
+    cond (code == 1) (codes "Asym" ∷ codes "xmid" ∷ codes "scal" ∷ [])
+    (cond (code == 2) (codes "Asym" ∷ codes "R0" ∷ codes "lrc" ∷ [])
+    (cond (code == 3) (codes "Vm" ∷ codes "K" ∷ [])
+    (cond (code == 4) (codes "A" ∷ codes "B" ∷ codes "xmid" ∷ codes "scal" ∷ []) [])))

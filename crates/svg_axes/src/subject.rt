@@ -1,7 +1,7 @@
 // What a report and a picture are about, and the names of what they show.
-ghost use Rattle.std.specs.Prelude.{◌≡◌};
+ghost use Rattle.std.specs.Prelude.{◌≡◌, map};
 ghost use Rattle.curves.specs.MeanFn.{code_of};
-ghost use Rattle.svg_axes.specs.Subject.{curve_name};
+ghost use Rattle.svg_axes.specs.Subject.{curve_name, value_names};
 
 use curves::Curve;
 use text_buffer::Span;
@@ -44,5 +44,18 @@ pub fn curve_name(curve: Curve) -> &'static [u8]
         Curve::Ssasymp => b"SSasymp",
         Curve::Ssmicmen => b"SSmicmen",
         Curve::Ssfpl => b"SSfpl",
+    }
+}
+
+// The names of a curve's values, which R's users know.
+#[tactic(auto, unfolding(crate::specs::Subject::value_names))]
+pub fn value_names(curve: Curve) -> &'static [&'static [u8]]
+    ensures { map (λ w. w.now) result.now ≡ value_names (code_of curve) }
+{
+    match curve {
+        Curve::Sslogis => &[b"Asym", b"xmid", b"scal"],
+        Curve::Ssasymp => &[b"Asym", b"R0", b"lrc"],
+        Curve::Ssmicmen => &[b"Vm", b"K"],
+        Curve::Ssfpl => &[b"A", b"B", b"xmid", b"scal"],
     }
 }
