@@ -1,8 +1,8 @@
+-- The lines left make of what was read what all lines make; each turn goes on in the text.
 use Rattle.std.proofs.Common.{◌≡◌, ◌-◌, ◌≤◌, length}
 use Rattle.read_table.specs.Table.{table_lists, table_state, lines_of, table_of, CountsInBounds}
 use Rattle.read_table.proofs.read_table.Given as goal
 
--- the lines left make of what was read what all lines make
 abbrev pub invariant-loop-p : goal.invariant-loop-p
 invariant-loop-p l = record {
   same_end : lines_of (length l.text) l.text (table_state l.p l.doses l.grams l.groups l.names) ≡ table_of l.fn.text l.fn.doses l.fn.grams l.fn.groups l.fn.names;

@@ -1,3 +1,4 @@
+-- What stands are the rows of the first i readings.
 use Rattle.std.proofs.Common.{◌≡◌}
 use Rattle.std.specs.Prelude.{slice_index}
 use Rattle.text_buffer.specs.Text.{wrote}

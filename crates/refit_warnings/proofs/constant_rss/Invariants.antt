@@ -1,3 +1,4 @@
+-- After i readings the sum is that of their squares.
 use Rattle.std.proofs.Common.{◌≡◌, get_or}
 use Rattle.std.specs.Float.{nan}
 use Rattle.math.specs.Basic.{add, sub, zero}

@@ -1,3 +1,4 @@
+-- After i doses n is how many of them are new, so at most i.
 use Rattle.std.proofs.Common.{◌≡◌, ◌≤◌}
 use Rattle.math.specs.Loops.{iter}
 use Rattle.refit_warnings.specs.Warnings.{counted_of, is_new_dose}

@@ -1,3 +1,4 @@
+-- After i readings the sum is that of canister g's among them.
 use Rattle.std.proofs.Common.{◌≡◌, get_or}
 use Rattle.std.specs.Prelude.{eqb}
 use Rattle.std.specs.Float.{nan}

@@ -1,3 +1,4 @@
+-- What stands are the first g canisters.
 use Rattle.std.proofs.Common.{◌≡◌}
 use Rattle.text_buffer.specs.Text.{wrote}
 use Rattle.svg_axes.specs.Subject.{subject_lists}

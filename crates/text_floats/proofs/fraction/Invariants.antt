@@ -1,3 +1,4 @@
+-- What stands and the last k digits are all d decimals.
 use Rattle.std.proofs.Common.{◌≡◌}
 use Rattle.text_buffer.specs.Text.{wrote}
 use Rattle.text_floats.specs.Floats.{last_digits}

@@ -1,3 +1,4 @@
+-- After e divisions, 400 - e more make of m what 400 make of x.
 use Rattle.std.proofs.Common.{◌≡◌, ◌-◌}
 use Rattle.text_floats.specs.Floats.{divided}
 use Rattle.text_floats.proofs.scaled_down.Given as goal

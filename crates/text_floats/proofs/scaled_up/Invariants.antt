@@ -1,3 +1,4 @@
+-- After e products, 400 - e more make of m what 400 make of x.
 use Rattle.std.proofs.Common.{◌≡◌, ◌-◌}
 use Rattle.text_floats.specs.Floats.{multiplied}
 use Rattle.text_floats.proofs.scaled_up.Given as goal

@@ -1,3 +1,4 @@
+-- Shortening n and d as they are gives what shortening them at the start gives; d falls.
 use Rattle.std.proofs.Common.{◌≡◌, ◌≤◌}
 use Rattle.text_floats.specs.Floats.{shortened}
 use Rattle.text_floats.proofs.shortened.Given as goal

@@ -1,3 +1,4 @@
+-- What stands and the lines of the warnings left are the lines of all.
 use Rattle.std.proofs.Common.{◌≡◌, drop}
 use Rattle.text_buffer.specs.Text.{wrote}
 use Rattle.refit_warnings.specs.Warnings.{findings_lists}

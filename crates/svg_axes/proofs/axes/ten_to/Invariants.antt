@@ -1,3 +1,4 @@
+-- After i turns x is 10 ^ i, each product rounded.
 use Rattle.std.proofs.Common.{◌≡◌}
 use Rattle.math.specs.Loops.{iter}
 use Rattle.math.specs.Basic.{mul, bits, one}

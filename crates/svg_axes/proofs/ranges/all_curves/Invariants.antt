@@ -1,3 +1,4 @@
+-- After g turns the range holds the curves of the first g canisters.
 use Rattle.std.proofs.Common.{◌≡◌}
 use Rattle.math.specs.Loops.{iter}
 use Rattle.svg_axes.specs.Subject.{subject_lists}

@@ -1,3 +1,4 @@
+-- After j turns the range holds the curve's grams at the first j doses.
 use Rattle.std.proofs.Common.{◌≡◌}
 use Rattle.math.specs.Loops.{iter}
 use Rattle.svg_axes.specs.Subject.{subject_lists}

@@ -1,3 +1,4 @@
+-- What stands are the bytes so far, each escaped.
 use Rattle.std.proofs.Common.{◌≡◌, take}
 use Rattle.std.specs.List.{flat_map}
 use Rattle.text_buffer.specs.Text.{wrote}

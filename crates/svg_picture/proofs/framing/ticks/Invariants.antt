@@ -1,3 +1,4 @@
+-- What stands are the first i ticks.
 use Rattle.std.proofs.Common.{◌≡◌}
 use Rattle.text_buffer.specs.Text.{wrote}
 use Rattle.svg_marks.specs.Escape.{each_text}

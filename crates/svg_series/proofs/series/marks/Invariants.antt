@@ -1,3 +1,4 @@
+-- What stands are the marks of the first i readings.
 use Rattle.std.proofs.Common.{◌≡◌, slice_index_or}
 use Rattle.std.specs.Prelude.{slice_index}
 use Rattle.std.specs.Float.{nan}

@@ -1,3 +1,4 @@
+-- What stands and the spaces from place i on are all the spaces.
 use Rattle.std.proofs.Common.{◌≡◌, ◌-◌}
 use Rattle.text_buffer.specs.Text.{wrote}
 use Rattle.text_lines.specs.Lines.{spaces}

@@ -1,3 +1,4 @@
+-- What stands and what is left of the template, with the numbers that are left, are the whole text.
 use Rattle.std.proofs.Common.{◌≡◌, false}
 use Rattle.std.specs.Slice.Iter.{iter_rest}
 use Rattle.text_buffer.specs.Text.{wrote}
