@@ -1,7 +1,7 @@
 // What a report and a picture are about, and the names of what they show.
 ghost use Rattle.std.specs.Prelude.{◌≡◌, map};
 ghost use Rattle.curves.specs.MeanFn.{code_of};
-ghost use Rattle.svg_axes.specs.Subject.{curve_name, value_names};
+ghost use Rattle.svg_axes.specs.Subject.{subject_lists, canister_name, curve_name, value_names};
 
 use curves::Curve;
 use text_buffer::Span;
@@ -22,8 +22,6 @@ pub struct Subject<'a> {
 }
 
 impl<'a> Subject<'a> {
-    ghost use Rattle.svg_axes.specs.Subject.{subject_lists, canister_name};
-
     // Canister g's name, empty where there is none.
     #[tactic(auto, unfolding(crate::specs::Subject::canister_name))]
     pub fn name(&self, g: usize) -> &[u8]

@@ -3,9 +3,9 @@
 // where all of them fit; `wrote` says too what a full buffer holds.
 #![tactic(auto)]
 
-ghost use Rattle.std.specs.Prelude.{◌≡◌, ◌∷◌, []};
+ghost use Rattle.std.specs.Prelude.{◌≡◌, ◌≤◌, ◌∷◌, [], length, take, drop};
 ghost use Rattle.std.proofs.Math.Seq.{slice};
-ghost use Rattle.text_buffer.specs.Text.{empty, wrote, whole_text};
+ghost use Rattle.text_buffer.specs.Text.{Written, empty, wrote, whole_text};
 
 use std::marker::Model;
 
@@ -37,9 +37,6 @@ pub struct Text<'a> {
 }
 
 impl<'a> Model for Text<'a> {
-    ghost use Rattle.std.specs.Prelude.{◌≤◌, length, take, drop};
-    ghost use Rattle.text_buffer.specs.Text.{Written};
-
     ghost Value = { Written };
 
     ghost view = { λ a. record { text = take a.at a.out.now; rest = drop a.at a.out.now; full = a.full } };
