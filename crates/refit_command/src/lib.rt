@@ -241,7 +241,7 @@ impl<'a, R: Files + AllocGlobal, O: Write, E: Write> Console<'a, R, O, E> {
                     text,
                     doses: &doses[..read.count],
                     grams: &grams[..read.count],
-                    group: &groups[..read.count],
+                    groups: &groups[..read.count],
                     names: &names,
                     canisters: read.canisters,
                 };

@@ -20,26 +20,26 @@ pub record ReadingsLists : Type 0 where
   pub text : List ℕ
   pub doses : List Float
   pub grams : List Float
-  pub group : List ℕ
+  pub groups : List ℕ
   pub names : List Span
   pub canisters : ℕ
 
 abbrev pub readings_lists : Readings → ReadingsLists
 readings_lists r =
-    record { text = r.text.now; doses = r.doses.now; grams = r.grams.now; group = r.group.now; names = r.names.now; canisters = r.canisters }
+    record { text = r.text.now; doses = r.doses.now; grams = r.grams.now; groups = r.groups.now; names = r.names.now; canisters = r.canisters }
 
 -- more readings than 512 or than a list has, or more canisters than 32
 unfoldable pub readings_fault : ReadingsLists → Result (Unit {0}) TableFault
 readings_fault r =
     let n = length r.doses in
-    cond (nat_lt 512 n || nat_lt (length r.grams) n || nat_lt (length r.group) n) (Err TableFault.TooManyReadings)
+    cond (nat_lt 512 n || nat_lt (length r.grams) n || nat_lt (length r.groups) n) (Err TableFault.TooManyReadings)
     (cond (nat_lt 32 r.canisters) (Err TableFault.TooManyCanisters) (Ok tt))
 
 -- what a run without a fault has
 pub record InReach (r : ReadingsLists) : Type 0 where
   pub few : length r.doses ≤ 512
   pub all_grams : length r.doses ≤ length r.grams
-  pub all_groups : length r.doses ≤ length r.group
+  pub all_groups : length r.doses ≤ length r.groups
   pub few_canisters : r.canisters ≤ 32
 
 -- the picture, where one is asked for and there is a fit
@@ -62,7 +62,7 @@ refitted_subject o r t =
       place = o.settings.place;
       doses = r.doses;
       grams = take (length r.doses) r.grams;
-      group = take (length r.doses) r.group;
+      groups = take (length r.doses) r.groups;
       text = r.text;
       names = r.names;
       values = t.values;
@@ -72,7 +72,7 @@ refitted_subject o r t =
 unfoldable pub refit_told_from : Task → ReadingsLists → List Float → List Float → List Float → Written → Written → Written × Written
 refit_told_from o r starts values effects out svg =
     let t = refit_of
-    (request_of (code_of o.settings.curve) r.doses (take (length r.doses) r.grams) (take (length r.doses) r.group) (o.settings.place ∷ []) o.settings.reml o.settings.n_agq)
+    (request_of (code_of o.settings.curve) r.doses (take (length r.doses) r.grams) (take (length r.doses) r.groups) (o.settings.place ∷ []) o.settings.reml o.settings.n_agq)
     (is_some o.given) starts values effects in
     report_and_picture o (refitted_subject o r t) t.starts t.answer out svg
 

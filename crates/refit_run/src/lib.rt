@@ -84,7 +84,7 @@ fn within_reach(readings: &Readings<'_>) -> Result<(), TableFault>
     ensures in_reach { IfOk result (λ _. InReach (readings_lists readings.now)) }
 {
     let n = readings.doses.len();
-    if n > READINGS || n > readings.grams.len() || n > readings.group.len() {
+    if n > READINGS || n > readings.grams.len() || n > readings.groups.len() {
         return Err(TableFault::TooManyReadings);
     }
     if readings.canisters > CANISTERS {
@@ -113,7 +113,7 @@ fn answer(o: &Task, readings: &Readings<'_>, out: &mut Text<'_>, svg: &mut Text<
         code: o.settings.curve.code(),
         doses: readings.doses,
         grams: &readings.grams[..n],
-        groups: &readings.group[..n],
+        groups: &readings.groups[..n],
         places: &place,
         reml: o.settings.reml,
         n_agq: o.settings.n_agq,
@@ -130,7 +130,7 @@ fn answer(o: &Task, readings: &Readings<'_>, out: &mut Text<'_>, svg: &mut Text<
         place: o.settings.place,
         doses: request.doses,
         grams: request.grams,
-        group: request.groups,
+        groups: request.groups,
         text: readings.text,
         names: readings.names,
         values,

@@ -12,7 +12,7 @@ pub struct Readings<'a> {
     pub text: &'a [u8],
     pub doses: &'a [f64],
     pub grams: &'a [f64],
-    pub group: &'a [usize],
+    pub groups: &'a [usize],
     pub names: &'a [Span],
     pub canisters: usize,
 }

@@ -75,7 +75,7 @@ reading_row s d g i =
     ∷ [])
 
 unfoldable pub reading_rows : SubjectLists → ℕ → List ℕ
-reading_rows s d = each_text (λ i. reading_row s d (slice_index s.group i) i) (length s.group)
+reading_rows s d = each_text (λ i. reading_row s d (slice_index s.groups i) i) (length s.groups)
 
 unfoldable pub readings_table_text : SubjectLists → List ℕ
 readings_table_text s =

@@ -121,7 +121,7 @@ fn reading_row(out: &mut Text<'_>, s: &Subject<'_>, d: u64, g: usize, i: usize)
 fn reading_rows(out: &mut Text<'_>, s: &Subject<'_>, d: u64)
     ensures { out.new ≡ wrote out.old (reading_rows (subject_lists s.now) d) }
 {
-    for (i, &g) in s.group.iter().enumerate() {
+    for (i, &g) in s.groups.iter().enumerate() {
         reading_row(out, s, d, g, i);
     }
 }

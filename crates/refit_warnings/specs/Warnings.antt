@@ -34,21 +34,21 @@ added_of s is grams = cond is (record { count = add s.count one; total = add s.t
 
 -- the readings of canister g: how many, as a float, and the sum of their grams
 unfoldable pub canister_sum : List ℕ → List Float → ℕ → Sum
-canister_sum group grams g = iter (λ i s. added_of s (eqb (get_or group i 0) g) (get_or grams i nan)) (length group) (record { count = zero; total = zero })
+canister_sum groups grams g = iter (λ i s. added_of s (eqb (get_or groups i 0) g) (get_or grams i nan)) (length groups) (record { count = zero; total = zero })
 
 abbrev pub canister_mean : List ℕ → List Float → ℕ → Float
-canister_mean group grams g = div (canister_sum group grams g).total (canister_sum group grams g).count
+canister_mean groups grams g = div (canister_sum groups grams g).total (canister_sum groups grams g).count
 
 abbrev pub square_of : Float → Float
 square_of d = mul d d
 
 -- the sum of the squared differences from it
 unfoldable pub constant_rss : List ℕ → List Float → Float
-constant_rss group grams = iter (λ i s. add s (square_of (sub (get_or grams i nan) (canister_mean group grams (get_or group i 0))))) (length group) zero
+constant_rss groups grams = iter (λ i s. add s (square_of (sub (get_or grams i nan) (canister_mean groups grams (get_or groups i 0))))) (length groups) zero
 
 -- the fit's rss is no lower; a millionth is taken for rounding
 abbrev pub explains_nothing : Float → List ℕ → List Float → Bool
-explains_nothing rss group grams = not (lt rss (mul (constant_rss group grams) (bits 0x3fef_fffd_e721_0be9)))
+explains_nothing rss groups grams = not (lt rss (mul (constant_rss groups grams) (bits 0x3fef_fffd_e721_0be9)))
 
 -- ---- the curve's values
 
@@ -77,7 +77,7 @@ distinct_doses doses = iter (λ i n. counted_of n (is_new_dose doses i)) (length
 
 -- fewer different doses than the curve's p values, or no more readings than those and the canisters' differences
 unfoldable pub too_few_readings : List Float → ℕ → ℕ → Bool
-too_few_readings doses p groups = ltb (distinct_doses doses) p || ltb (length doses - p) groups
+too_few_readings doses p group_count = ltb (distinct_doses doses) p || ltb (length doses - p) group_count
 
 -- ---- all of them
 
@@ -88,7 +88,7 @@ warns r (Unmoved i) = is_unmoved r.starts r.subject.values i
 warns r Search = not r.refit.search.converged
 warns r Fit = not r.refit.fit.converged
 warns r Step = is_step r.subject.code r.subject.values
-warns r Nothing = explains_nothing r.refit.fit.rss r.subject.group r.subject.grams
+warns r Nothing = explains_nothing r.refit.fit.rss r.subject.groups r.subject.grams
 warns r Few = too_few_readings r.subject.doses (length r.subject.values) (length r.subject.effects)
 warns r Low = ltb 1 (length r.subject.effects) && lt r.refit.search.theta (bits 0x3fc9_ba5e_353f_7cee)
 warns r High = ltb 1 (length r.subject.effects) && lt (bits 0x4033_ffbe_76c8_b439) r.refit.search.theta

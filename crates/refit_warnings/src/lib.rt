@@ -24,13 +24,13 @@ pub struct Sum {
 // The readings of canister g. By index and no zip: where grams are missing, `at` says NaN.
 #[tactic(auto, using(math::specs::laws::Loops::iter_zero, math::specs::laws::Loops::iter_next), unfolding(crate::specs::Warnings::canister_sum))]
 fn readings_of(s: &Subject<'_>, g: usize) -> Sum
-    ensures { result ≡ canister_sum s.now.group.now s.now.grams.now g }
+    ensures { result ≡ canister_sum s.now.groups.now s.now.grams.now g }
 {
     let mut sum = Sum {
         count: 0.0,
         total: 0.0,
     };
-    for (i, &of) in s.group.iter().enumerate() {
+    for (i, &of) in s.groups.iter().enumerate() {
         if of == g {
             sum.count += 1.0;
             sum.total += math::at(s.grams, i);
@@ -40,7 +40,7 @@ fn readings_of(s: &Subject<'_>, g: usize) -> Sum
 }
 
 fn mean(s: &Subject<'_>, g: usize) -> f64
-    ensures { result ≡ canister_mean s.now.group.now s.now.grams.now g }
+    ensures { result ≡ canister_mean s.now.groups.now s.now.grams.now g }
 {
     let sum = readings_of(s, g);
     sum.total / sum.count
@@ -55,10 +55,10 @@ fn square(d: f64) -> f64
 // The rss of a constant for each canister. By index, as above.
 #[tactic(auto, using(math::specs::laws::Loops::iter_zero, math::specs::laws::Loops::iter_next), unfolding(crate::specs::Warnings::constant_rss))]
 fn constant_rss(s: &Subject<'_>) -> f64
-    ensures { result ≡ constant_rss s.now.group.now s.now.grams.now }
+    ensures { result ≡ constant_rss s.now.groups.now s.now.grams.now }
 {
     let mut rss = 0.0;
-    for (i, &g) in s.group.iter().enumerate() {
+    for (i, &g) in s.groups.iter().enumerate() {
         rss += square(math::at(s.grams, i) - mean(s, g));
     }
     rss
@@ -66,7 +66,7 @@ fn constant_rss(s: &Subject<'_>) -> f64
 
 // Whether the fit's rss is no lower than that, but for rounding.
 fn explains_nothing(f: &Findings<'_>) -> bool
-    ensures { result ≡ explains_nothing f.now.refit.fit.rss f.now.subject.group.now f.now.subject.grams.now }
+    ensures { result ≡ explains_nothing f.now.refit.fit.rss f.now.subject.groups.now f.now.subject.grams.now }
 {
     !(f.refit.fit.rss < constant_rss(&f.subject) * 0.999999)
 }
@@ -113,10 +113,10 @@ fn distinct(doses: &[f64]) -> usize
 
 // Whether the readings are no more than p values and the differences between the canisters, or have fewer doses than values.
 #[tactic(auto, unfolding(crate::specs::Warnings::too_few_readings))]
-fn few(doses: &[f64], p: usize, groups: usize) -> bool
-    ensures { result ≡ too_few_readings doses.now p groups }
+fn few(doses: &[f64], p: usize, group_count: usize) -> bool
+    ensures { result ≡ too_few_readings doses.now p group_count }
 {
-    distinct(doses) < p || doses.len().saturating_sub(p) < groups
+    distinct(doses) < p || doses.len().saturating_sub(p) < group_count
 }
 
 #[tactic(auto, unfolding(crate::specs::Warnings::warns))]
@@ -124,7 +124,7 @@ pub fn warns(f: &Findings<'_>, warning: Warning) -> bool
     ensures { result ≡ warns (findings_lists f.now) warning }
 {
     let s = f.subject;
-    let groups = s.effects.len();
+    let group_count = s.effects.len();
     let theta = f.refit.search.theta;
     match warning {
         Warning::Unmoved(i) => is_unmoved(f, i),
@@ -132,10 +132,10 @@ pub fn warns(f: &Findings<'_>, warning: Warning) -> bool
         Warning::Fit => !f.refit.fit.converged,
         Warning::Step => is_step(s.curve, s.values),
         Warning::Nothing => explains_nothing(f),
-        Warning::Few => few(s.doses, s.values.len(), groups),
-        Warning::Low => groups > 1 && theta < 0.201,
-        Warning::High => groups > 1 && theta > 19.999,
-        Warning::Alone => groups == 1,
+        Warning::Few => few(s.doses, s.values.len(), group_count),
+        Warning::Low => group_count > 1 && theta < 0.201,
+        Warning::High => group_count > 1 && theta > 19.999,
+        Warning::Alone => group_count == 1,
         Warning::Quadrature => f.n_agq > 1,
     }
 }

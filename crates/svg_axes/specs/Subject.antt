@@ -10,7 +10,7 @@ pub record SubjectLists : Type 0 where
   pub place : ℕ
   pub doses : List Float
   pub grams : List Float
-  pub group : List ℕ
+  pub groups : List ℕ
   pub text : List ℕ
   pub names : List Span
   pub values : List Float
@@ -22,7 +22,7 @@ subject_lists s = record {
   place = s.place;
   doses = s.doses.now;
   grams = s.grams.now;
-  group = s.group.now;
+  groups = s.groups.now;
   text = s.text.now;
   names = s.names.now;
   values = s.values.now;

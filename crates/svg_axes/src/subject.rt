@@ -14,7 +14,7 @@ pub struct Subject<'a> {
     pub place: usize,
     pub doses: &'a [f64],
     pub grams: &'a [f64],
-    pub group: &'a [usize],
+    pub groups: &'a [usize],
     pub text: &'a [u8],
     pub names: &'a [Span],
     pub values: &'a [f64],

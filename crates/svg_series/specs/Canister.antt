@@ -32,7 +32,7 @@ reading_text f g of dose grams = cond (of == g) (point_text (codes "<path d=\"M"
 
 unfoldable pub marks_text : SubjectLists → Frame → ℕ → List ℕ
 marks_text s f g =
-    each_text (λ i. reading_text f g (slice_index s.group i) (slice_index_or s.doses i nan) (slice_index_or s.grams i nan)) (length s.group)
+    each_text (λ i. reading_text f g (slice_index s.groups i) (slice_index_or s.doses i nan) (slice_index_or s.grams i nan)) (length s.groups)
 
 unfoldable pub drawn_readings_text : SubjectLists → Frame → ℕ → List ℕ
 drawn_readings_text s f g =

@@ -69,7 +69,7 @@ fn marks(out: &mut Text<'_>, s: &Subject<'_>, f: &Frame, g: usize)
     ensures { out.new ≡ wrote out.old (marks_text (subject_lists s.now) f.now g) }
 {
     // By place and not zipped: a dose or grams that a shorter list lacks counts as NaN.
-    for (i, &of) in s.group.iter().enumerate() {
+    for (i, &of) in s.groups.iter().enumerate() {
         reading(out, f, g, of, math::at(s.doses, i), math::at(s.grams, i));
     }
 }

@@ -8,4 +8,4 @@ use Rattle.refit_tables.specs.Tables.{reading_row}
 use Rattle.refit_tables.proofs.reading_rows.Given as goal
 
 abbrev pub invariant-loop-i : goal.invariant-loop-i
-invariant-loop-i l = l.out ≡ wrote l.initial.out (each_text (λ k. reading_row (subject_lists l.s) l.d (slice_index l.s.group.now k) k) l.i)
+invariant-loop-i l = l.out ≡ wrote l.initial.out (each_text (λ k. reading_row (subject_lists l.s) l.d (slice_index l.s.groups.now k) k) l.i)

@@ -10,4 +10,4 @@ use Rattle.svg_series.proofs.series.marks.Given as goal
 abbrev pub invariant-loop-i : goal.invariant-loop-i
 invariant-loop-i l =
     l.out
-    ≡ wrote l.initial.out (each_text (λ k. reading_text l.f l.g (slice_index l.s.group.now k) (slice_index_or l.s.doses.now k nan) (slice_index_or l.s.grams.now k nan)) l.i)
+    ≡ wrote l.initial.out (each_text (λ k. reading_text l.f l.g (slice_index l.s.groups.now k) (slice_index_or l.s.doses.now k nan) (slice_index_or l.s.grams.now k nan)) l.i)
