@@ -3,15 +3,15 @@ use Rattle.std.proofs.Common.{◌≡◌, refl, sym, ap, ◌∙◌, ℕ, suc, ◌
 use Rattle.std.proofs.Math.Seq.{take-suc-set, take-length}
 use Rattle.std.proofs.lemmas.Bool.{lt-leb}
 use Rattle.std.proofs.lemmas.List.{take-append-drop, drop-set-lt, set-get_or}
-use Rattle.replay_cases.specs.Words.{word_of, after_word, after_words, after_values, elements, filled, listed, places}
-use Rattle.replay_cases.specs.Digits.{decimal_of}
+use Rattle.replay_cases.specs.Words.{next_word, after_word, after_words, after_values, elements, values_put, list_put, places}
+use Rattle.replay_cases.specs.Digits.{whole_number_of}
 
 -- i of the list's elements are stored over those of list₀; left₀ is what was left before its first element
 pub record Reading {A : Type 0} (value : List ℕ → Option A) (left₀ : Option (List ℕ)) (list₀ list : List A) (left : Option (List ℕ)) (i : ℕ) : Type 0 where
   pub size : length list ≡ length list₀
   pub front : option_map (λ xs. take i list ++ xs) (elements value (length list₀ - i) left) ≡ elements value (length list₀) left₀
   pub place : after_words (length list₀ - i) left ≡ after_words (length list₀) left₀
-  pub held : take i list ++ filled value (drop i list) left ≡ filled value list₀ left₀
+  pub held : take i list ++ values_put value (drop i list) left ≡ values_put value list₀ left₀
   pub stop : after_values value (length list₀ - i) left ≡ after_values value (length list₀) left₀
 
 module _ {A : Type 0} (value : List ℕ → Option A) (left₀ left : Option (List ℕ)) (list₀ list : List A) (i : ℕ) (r : Reading value left₀ list₀ list left i) where
@@ -19,17 +19,17 @@ module _ {A : Type 0} (value : List ℕ → Option A) (left₀ left : Option (Li
     one_less : length list₀ - i ≡ suc (length list₀ - (i + 1))
     one_less = omega arith
 
-    module _ (e : option_and_then value (word_of left) ≡ None) where
+    module _ (e : option_and_then value (next_word left) ≡ None) where
       pub reading_stops : None ≡ elements value (length list₀) left₀
       unfolding elements
       reading_stops = rw (one_less, e) at r.front
 
-      kept : (l : List A) → filled value l left ≡ l
-      unfolding filled
+      kept : (l : List A) → values_put value l left ≡ l
+      unfolding values_put
       kept [] = refl
       kept (x ∷ l) = rw e
 
-      pub reading_stops_with : (x : A) → set list i (get_or list i x) ≡ filled value list₀ left₀
+      pub reading_stops_with : (x : A) → set list i (get_or list i x) ≡ values_put value list₀ left₀
       reading_stops_with x =
           set-get_or list i x ∙ sym (take-append-drop i list) ∙ ap (λ t. take i list ++ t) (sym (kept (drop i list))) ∙ r.held
 
@@ -37,7 +37,7 @@ module _ {A : Type 0} (value : List ℕ → Option A) (left₀ left : Option (Li
       unfolding after_values
       reading_stops_at = rw (one_less, e) at r.stop
 
-    module _ (x : A) (e : option_and_then value (word_of left) ≡ Some x) where
+    module _ (x : A) (e : option_and_then value (next_word left) ≡ Some x) where
       b : i < length list
       b = omega (arith, r.size)
 
@@ -48,9 +48,9 @@ module _ {A : Type 0} (value : List ℕ → Option A) (left₀ left : Option (Li
       joined None = refl
       joined (Some xs) = ap Some (one_more xs)
 
-      filled_more : x ∷ filled value (drop (i + 1) (set list i x)) (after_word left) ≡ filled value (drop i list) left
-      unfolding filled
-      filled_more = rw (drop-set-lt (i + 1) list i x (omega arith), drop-cons list i x b, add-one i, e)
+      put_more : x ∷ values_put value (drop (i + 1) (set list i x)) (after_word left) ≡ values_put value (drop i list) left
+      unfolding values_put
+      put_more = rw (drop-set-lt (i + 1) list i x (omega arith), drop-cons list i x b, add-one i, e)
 
       pub reading_goes_on : Reading value left₀ list₀ (set list i x) (after_word left) (i + 1)
       unfolding elements after_words after_values
@@ -60,8 +60,8 @@ module _ {A : Type 0} (value : List ℕ → Option A) (left₀ left : Option (Li
             front = joined (elements value (length list₀ - (i + 1)) (after_word left)) ∙ (rw (one_less, e) at r.front);
             place = rw one_less at r.place;
             held =
-                one_more (filled value (drop (i + 1) (set list i x)) (after_word left))
-                ∙ ap (λ t. take i list ++ t) filled_more
+                one_more (values_put value (drop (i + 1) (set list i x)) (after_word left))
+                ∙ ap (λ t. take i list ++ t) put_more
                 ∙ r.held;
             stop = rw (one_less, e) at r.stop;
           }
@@ -77,8 +77,8 @@ module _ {A : Type 0} (value : List ℕ → Option A) (left₀ left : Option (Li
         let f = rw none_left at r.front in
         sym (ap Some (append-nil (take i list) ∙ ap (λ k. take k list) e ∙ take-length list)) ∙ f
 
-    pub reading_ends_with : i ≤ length list₀ → list ≡ filled value list₀ left₀
-    unfolding filled
+    pub reading_ends_with : i ≤ length list₀ → list ≡ values_put value list₀ left₀
+    unfolding values_put
     reading_ends_with p =
         let e : i ≡ length list = omega (arith, r.size) in
         let q : length list ≤ i = omega (arith, r.size) in
@@ -95,18 +95,18 @@ module _ {A : Type 0} (value : List ℕ → Option A) (left₀ left : Option (Li
 
 -- a list whose length is a fault, or too long, takes no places
 module _ {A : Type 0} (value : List ℕ → Option A) (out : List A) (left : Option (List ℕ)) (e : places (length out) left ≡ 0) where
-  pub none_listed : out ≡ listed value out left
-  unfolding filled
-  none_listed = rw e
+  pub none_put : out ≡ list_put value out left
+  unfolding values_put
+  none_put = rw e
 
   pub none_after : after_word left ≡ after_values value (places (length out) left) (after_word left)
   unfolding after_values
   none_after = rw e
 
-pub no_length : (room : ℕ) (left : Option (List ℕ)) → option_and_then decimal_of (word_of left) ≡ None → places room left ≡ 0
+pub no_length : (room : ℕ) (left : Option (List ℕ)) → option_and_then whole_number_of (next_word left) ≡ None → places room left ≡ 0
 no_length room left e = rw e
 
-pub too_long : (room n : ℕ) (left : Option (List ℕ)) → option_and_then decimal_of (word_of left) ≡ Some n → room < n → places room left ≡ 0
+pub too_long : (room n : ℕ) (left : Option (List ℕ)) → option_and_then whole_number_of (next_word left) ≡ Some n → room < n → places room left ≡ 0
 too_long room n left e p = rw (e, lt-leb n room p)
 
 -- one word, and then n

@@ -15,22 +15,22 @@ abbrev pub no_lines : Counts
 no_lines = (0, 0, None)
 
 -- one more, as far as 64 bits go
-abbrev pub more : ℕ → ℕ
-more n = min (n + 1) (2 ^ 64 - 1)
+abbrev pub count_up : ℕ → ℕ
+count_up n = min (n + 1) (2 ^ 64 - 1)
 
 -- with one more line, which agrees
 abbrev pub agreed : Counts → Counts
-agreed (lines, agree, first) = (more lines, more agree, first)
+agreed (lines, agree, first) = (count_up lines, count_up agree, first)
 
 -- with line `number`, which differs
 abbrev pub differed : ℕ → Counts → Counts
-differed number (lines, agree, first) = (more lines, agree, option_or first (Some number))
+differed number (lines, agree, first) = (count_up lines, agree, option_or first (Some number))
 
 -- the counts of all operations after line `number`, by what it came to
-abbrev pub counted : ℕ → Verdict → List Counts → List Counts
-counted number (Verdict.Agrees op) counts = set counts op (agreed (get_or counts op no_lines))
-counted number (Verdict.Differs op) counts = set counts op (differed number (get_or counts op no_lines))
-counted number Verdict.Malformed counts = counts
+abbrev pub counts_after : ℕ → Verdict → List Counts → List Counts
+counts_after number (Verdict.Agrees op) counts = set counts op (agreed (get_or counts op no_lines))
+counts_after number (Verdict.Differs op) counts = set counts op (differed number (get_or counts op no_lines))
+counts_after number Verdict.Malformed counts = counts
 
 -- whether a line counts as malformed, where there are n operations
 abbrev pub is_malformed : ℕ → Verdict → Bool

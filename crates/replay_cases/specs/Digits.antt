@@ -20,25 +20,25 @@ are_digits base [] = true
 are_digits base (b ∷ w) = is_below base (digit_of b) && are_digits base w
 
 -- the digits of a word as a number, the most significant first, after those that make n
-unfoldable pub value_from : ℕ → ℕ → List ℕ → ℕ
-value_from base n [] = n
-value_from base n (b ∷ w) = value_from base (n * base + unwrap_or (digit_of b) 0) w
+unfoldable pub digits_from : ℕ → ℕ → List ℕ → ℕ
+digits_from base n [] = n
+digits_from base n (b ∷ w) = digits_from base (n * base + unwrap_or (digit_of b) 0) w
 
 -- that number, if a word's bytes are all digits and it is below 2 ^ 64
-unfoldable pub number_from : ℕ → ℕ → List ℕ → Option ℕ
-number_from base n w = cond (are_digits base w && ltb (value_from base n w) (2 ^ 64)) (Some (value_from base n w)) None
+unfoldable pub in_base_from : ℕ → ℕ → List ℕ → Option ℕ
+in_base_from base n w = cond (are_digits base w && ltb (digits_from base n w) (2 ^ 64)) (Some (digits_from base n w)) None
 
 -- the number that a word's digits say, if it is below 2 ^ 64
-abbrev pub number_of : ℕ → List ℕ → Option ℕ
-number_of base w = number_from base 0 w
+abbrev pub in_base_of : ℕ → List ℕ → Option ℕ
+in_base_of base w = in_base_from base 0 w
 
 -- 16 hexadecimal digits
 unfoldable pub hex_of : List ℕ → Option ℕ
-hex_of w = cond (eqb (length w) 16) (number_of 16 w) None
+hex_of w = cond (eqb (length w) 16) (in_base_of 16 w) None
 
 -- at least one decimal digit
-unfoldable pub decimal_of : List ℕ → Option ℕ
-decimal_of w = cond (eqb (length w) 0) None (number_of 10 w)
+unfoldable pub whole_number_of : List ℕ → Option ℕ
+whole_number_of w = cond (eqb (length w) 0) None (in_base_of 10 w)
 
 -- `nan`
 abbrev pub nan_word : List ℕ

@@ -1,6 +1,6 @@
 // A word's digits read as a number, and a word read as a float. `None` is a fault.
 ghost use Rattle.std.specs.Prelude.{◌≡◌};
-ghost use Rattle.replay_cases.specs.Digits.{digit_of, number_of, hex_of, decimal_of, float_of};
+ghost use Rattle.replay_cases.specs.Digits.{digit_of, in_base_of, hex_of, whole_number_of, float_of};
 
 use math::words::of_bits;
 
@@ -23,7 +23,7 @@ pub fn digit(b: u8) -> Option<u64>
 // number of 2^64 or more.
 #[tactic(auto, using(crate::proofs::Numbers::digits))]
 pub fn in_base(w: &[u8], base: u64) -> Option<u64>
-    ensures { result ≡ number_of base w.now }
+    ensures { result ≡ in_base_of base w.now }
 {
     let mut n: u64 = 0;
     for &b in w {
@@ -44,9 +44,9 @@ pub fn hex(w: &[u8]) -> Option<u64>
     }
 }
 
-#[tactic(auto, unfolding(crate::specs::Digits::decimal_of))]
-pub fn decimal(w: &[u8]) -> Option<u64>
-    ensures { result ≡ decimal_of w.now }
+#[tactic(auto, unfolding(crate::specs::Digits::whole_number_of))]
+pub fn whole_number(w: &[u8]) -> Option<u64>
+    ensures { result ≡ whole_number_of w.now }
 {
     if w.is_empty() { None } else { in_base(w, 10) }
 }

@@ -86,7 +86,7 @@ pub struct Tally {
 }
 
 impl Tally {
-    ghost use Rattle.replay_cases.specs.Counts.{counts_of, no_lines, more, counted, is_malformed};
+    ghost use Rattle.replay_cases.specs.Counts.{counts_of, no_lines, count_up, counts_after, is_malformed};
 
     pub fn new(alloc: Global, names: &[&'static str]) -> Result<Self, AllocError>
         ensures names { IfOk result (λ t. map (λ o. o.name) t.operations.items ≡ names.now) }
@@ -111,8 +111,8 @@ impl Tally {
     #[tactic(auto, using(crate::proofs::Counts::counting))]
     pub fn count(&mut self, number: u64, verdict: Verdict)
         ensures names { map (λ o. o.name) self.new.operations.items ≡ map (λ o. o.name) self.old.operations.items }
-        ensures counts { map counts_of self.new.operations.items ≡ counted number verdict (map counts_of self.old.operations.items) }
-        ensures malformed { self.new.malformed ≡ (if is_malformed (vec_len self.old.operations) verdict then more self.old.malformed else self.old.malformed) }
+        ensures counts { map counts_of self.new.operations.items ≡ counts_after number verdict (map counts_of self.old.operations.items) }
+        ensures malformed { self.new.malformed ≡ (if is_malformed (vec_len self.old.operations) verdict then count_up self.old.malformed else self.old.malformed) }
         ensures first { self.new.first_malformed ≡ (if is_malformed (vec_len self.old.operations) verdict then option_or self.old.first_malformed (Some number) else self.old.first_malformed) }
         ensures unread { self.new.unread ≡ self.old.unread }
     {
@@ -134,7 +134,7 @@ impl Tally {
         ensures operations { self.new.operations ≡ self.old.operations }
         ensures malformed { self.new.malformed ≡ self.old.malformed }
         ensures first { self.new.first_malformed ≡ self.old.first_malformed }
-        ensures unread { self.new.unread ≡ more self.old.unread }
+        ensures unread { self.new.unread ≡ count_up self.old.unread }
     {
         self.unread = self.unread.saturating_add(1);
     }

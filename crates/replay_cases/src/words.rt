@@ -2,11 +2,11 @@
 // should hold with `?`, and asks for its end last.
 ghost use Rattle.std.specs.Prelude.{◌≡◌, ℕ, Bool, nat_eq, List, Option, ◌+◌, ◌≤◌, ◌↔◌, ◌==◌, Some, None, IsSome, IfSome, OnSome, length, take, drop, option_map, option_and_then};
 ghost use Rattle.std.specs.List.{position};
-ghost use Rattle.replay_cases.specs.Words.{elements, cut, word_of, after_word, after_words, after_values, filled, list_of, listed, places, said, said_list};
-ghost use Rattle.replay_cases.specs.Digits.{decimal_of, float_of};
+ghost use Rattle.replay_cases.specs.Words.{elements, cut, next_word, after_word, after_words, after_values, values_put, list_of, list_put, places, said, said_list};
+ghost use Rattle.replay_cases.specs.Digits.{whole_number_of, float_of};
 ghost use Rattle.replay_cases.specs.Same.{same_bits};
 
-use crate::digits::{decimal, float_of};
+use crate::digits::{float_of, whole_number};
 use crate::same::same_float;
 use std::marker::Model;
 
@@ -38,12 +38,12 @@ impl Value for f64 {
 }
 
 impl Value for u64 {
-    ghost value_of = { decimal_of };
+    ghost value_of = { whole_number_of };
 
     ghost same = { nat_eq };
 
     fn from_word(word: &[u8]) -> Option<u64> {
-        decimal(word)
+        whole_number(word)
     }
 
     fn is_same(self, other: u64) -> bool {
@@ -53,12 +53,12 @@ impl Value for u64 {
 
 // A count or an index.
 impl Value for usize {
-    ghost value_of = { decimal_of };
+    ghost value_of = { whole_number_of };
 
     ghost same = { nat_eq };
 
     fn from_word(word: &[u8]) -> Option<usize> {
-        decimal(word).map(|n| n as usize)
+        whole_number(word).map(|n| n as usize)
     }
 
     fn is_same(self, other: usize) -> bool {
@@ -105,9 +105,9 @@ impl<'a> Words<'a> {
     }
 
     // The next word, up to a space or the line's end. An empty word is a fault.
-    #[tactic(auto, unfolding(crate::specs::Words::word_of, crate::specs::Words::after_word))]
+    #[tactic(auto, unfolding(crate::specs::Words::next_word, crate::specs::Words::after_word))]
     pub fn word(&mut self) -> Option<&'a [u8]>
-        ensures value { option_map (λ w. w.now) result ≡ word_of self.old }
+        ensures value { option_map (λ w. w.now) result ≡ next_word self.old }
         ensures rest { self.new ≡ after_word self.old }
     {
         let (word, after) = split_word(self.rest?);
@@ -117,7 +117,7 @@ impl<'a> Words<'a> {
 
     // The next word, which must be `name`.
     pub fn named(&mut self, name: &[u8]) -> Option<()>
-        ensures value { IsSome result ↔ (word_of self.old ≡ Some name.now) }
+        ensures value { IsSome result ↔ (next_word self.old ≡ Some name.now) }
         ensures rest { self.new ≡ after_word self.old }
     {
         let word = self.word()?;
@@ -126,7 +126,7 @@ impl<'a> Words<'a> {
 
     // The number or the float that the next word says.
     pub fn value<T: Value>(&mut self) -> Option<T>
-        ensures value { result ≡ option_and_then T.value_of (word_of self.old) }
+        ensures value { result ≡ option_and_then T.value_of (next_word self.old) }
         ensures rest { self.new ≡ after_word self.old }
     {
         let word = self.word()?;
@@ -137,7 +137,7 @@ impl<'a> Words<'a> {
     #[tactic(auto, using(crate::proofs::Elements::reading))]
     pub fn values<T: Value>(&mut self, out: &mut [T]) -> Option<()>
         ensures value { option_map (λ _. out.new) result ≡ elements T.value_of (length out.old) self.old }
-        ensures out { out.new ≡ filled T.value_of out.old self.old }
+        ensures out { out.new ≡ values_put T.value_of out.old self.old }
         ensures rest { OnSome result (self.new ≡ after_words (length out.old) self.old) }
         ensures left { self.new ≡ after_values T.value_of (length out.old) self.old }
     {
@@ -153,7 +153,7 @@ impl<'a> Words<'a> {
     pub fn list_into<T: Value>(&mut self, out: &mut [T]) -> Option<usize>
         ensures value { option_map (λ n. take n out.new) result ≡ list_of T.value_of (length out.old) self.old }
         ensures bound { IfSome result (λ n. n ≤ length out.new) }
-        ensures out { out.new ≡ listed T.value_of out.old self.old }
+        ensures out { out.new ≡ list_put T.value_of out.old self.old }
         ensures behind { drop (places (length out.old) self.old) out.new ≡ drop (places (length out.old) self.old) out.old }
         ensures rest { IfSome result (λ n. self.new ≡ after_words (n + 1) self.old) }
         ensures left { self.new ≡ after_values T.value_of (places (length out.old) self.old) (after_word self.old) }
@@ -179,7 +179,7 @@ impl<'a> Words<'a> {
 
     // Whether the next word says this value.
     pub fn says<T: Value>(&mut self, value: T) -> Option<bool>
-        ensures value { result ≡ option_map (λ x. T.same x value) (option_and_then T.value_of (word_of self.old)) }
+        ensures value { result ≡ option_map (λ x. T.same x value) (option_and_then T.value_of (next_word self.old)) }
         ensures rest { self.new ≡ after_word self.old }
     {
         let said = self.value::<T>()?;
