@@ -15,12 +15,12 @@ use fit_refusals::Problem;
 use replay_cases::lent::kept;
 use replay_cases::words::Words;
 
-// Reads a problem without its theta, and has `judge` read the rest of the line.
-pub fn judge_problem<J: Fn(&mut Words<'_>, Problem<'_>) -> Option<bool>>(
+// A problem without its theta, which `rest` judges by the rest of the line.
+pub fn judge_problem<R: Fn(&mut Words<'_>, Problem<'_>) -> Option<bool>>(
     words: &mut Words<'_>,
-    judge: J,
+    rest: R,
 ) -> Option<bool>
-    requires { J.IsAlwaysCallable judge }
+    requires { R.IsAlwaysCallable rest }
 {
     let mut doses = [0.0; READINGS];
     let mut grams = [0.0; READINGS];
@@ -45,7 +45,7 @@ pub fn judge_problem<J: Fn(&mut Words<'_>, Problem<'_>) -> Option<bool>>(
         group_upper: words.list(&mut group_upper)?,
         theta: &[],
     };
-    judge(words, problem)
+    rest(words, problem)
 }
 
 pub fn judge_fit(words: &mut Words<'_>, problem: Problem<'_>) -> Option<bool> {
