@@ -3,7 +3,7 @@ use Rattle.std.proofs.Common.{◌≡◌, refl, sym, ap, ◌∙◌, ℕ, suc, ◌
 use Rattle.std.proofs.Math.Seq.{take-suc-set, take-length}
 use Rattle.std.proofs.lemmas.Bool.{lt-leb}
 use Rattle.std.proofs.lemmas.List.{take-append-drop, drop-set-lt, set-get_or}
-use Rattle.replay_cases.specs.Words.{next_word, after_word, after_words, after_values, elements, values_put, list_put, places}
+use Rattle.replay_cases.specs.Words.{first_word, after_word, after_words, after_values, elements, values_put, list_put, places}
 use Rattle.replay_cases.specs.Digits.{whole_number_of}
 
 -- i of the list's elements are stored over those of list₀; left₀ is what was left before its first element
@@ -19,7 +19,7 @@ module _ {A : Type 0} (value : List ℕ → Option A) (left₀ left : Option (Li
     one_less : length list₀ - i ≡ suc (length list₀ - (i + 1))
     one_less = omega arith
 
-    module _ (e : option_and_then value (next_word left) ≡ None) where
+    module _ (e : option_and_then value (first_word left) ≡ None) where
       pub reading_stops : None ≡ elements value (length list₀) left₀
       unfolding elements
       reading_stops = rw (one_less, e) at r.front
@@ -37,7 +37,7 @@ module _ {A : Type 0} (value : List ℕ → Option A) (left₀ left : Option (Li
       unfolding after_values
       reading_stops_at = rw (one_less, e) at r.stop
 
-    module _ (x : A) (e : option_and_then value (next_word left) ≡ Some x) where
+    module _ (x : A) (e : option_and_then value (first_word left) ≡ Some x) where
       b : i < length list
       b = omega (arith, r.size)
 
@@ -103,10 +103,10 @@ module _ {A : Type 0} (value : List ℕ → Option A) (out : List A) (left : Opt
   unfolding after_values
   none_after = rw e
 
-pub no_length : (room : ℕ) (left : Option (List ℕ)) → option_and_then whole_number_of (next_word left) ≡ None → places room left ≡ 0
+pub no_length : (room : ℕ) (left : Option (List ℕ)) → option_and_then whole_number_of (first_word left) ≡ None → places room left ≡ 0
 no_length room left e = rw e
 
-pub too_long : (room n : ℕ) (left : Option (List ℕ)) → option_and_then whole_number_of (next_word left) ≡ Some n → room < n → places room left ≡ 0
+pub too_long : (room n : ℕ) (left : Option (List ℕ)) → option_and_then whole_number_of (first_word left) ≡ Some n → room < n → places room left ≡ 0
 too_long room n left e p = rw (e, lt-leb n room p)
 
 -- one word, and then n

@@ -2,7 +2,7 @@
 use Rattle.std.proofs.Common.{◌≡◌, refl, sym, ap, ◌∙◌, ℕ, suc, ◌+◌, ◌-◌, ◌<◌, ◌≤◌, Bool, ◌&&◌, List, ◌∷◌, length, drop, get_or, Option, Some, None, option_map, option_and_then, arith, add-one, drop-cons, drop_of_length-le}
 use Rattle.std.proofs.Math.Bool.{and-true, and_assoc}
 use Rattle.math.specs.Lists.{same_lists}
-use Rattle.replay_cases.specs.Words.{next_word, after_word, after_words, elements, said}
+use Rattle.replay_cases.specs.Words.{first_word, after_word, after_words, elements, said}
 
 -- the words of the first i values have been read, and `so_far` says whether they said them; left₀ is what was left before the first
 pub record Saying {A : Type 0} (value : List ℕ → Option A) (same : A → A → Bool) (left₀ : Option (List ℕ)) (values : List A) (left : Option (List ℕ)) (so_far : Bool) (i : ℕ) : Type 0 where
@@ -20,9 +20,9 @@ module _ {A : Type 0} (value : List ℕ → Option A) (same : A → A → Bool) 
       unread None e = refl
       unread (Some x) e = cc
 
-      pub saying_stops : option_map (λ x. same x v) (option_and_then value (next_word left)) ≡ None → None ≡ said value same values left₀
+      pub saying_stops : option_map (λ x. same x v) (option_and_then value (first_word left)) ≡ None → None ≡ said value same values left₀
       unfolding elements
-      saying_stops e = rw (one_less, unread (option_and_then value (next_word left)) e) at s.verdict
+      saying_stops e = rw (one_less, unread (option_and_then value (first_word left)) e) at s.verdict
 
       module _ (b : Bool) where
         joined : (o : Option (List A)) (x : A) → same x v ≡ b → option_map (λ xs. (so_far && b) && same_lists same xs (drop (i + 1) values)) o ≡ option_map (λ xs. so_far && same_lists same xs (drop i values)) (option_map (λ xs. x ∷ xs) o)
@@ -31,7 +31,7 @@ module _ {A : Type 0} (value : List ℕ → Option A) (same : A → A → Bool) 
         joined (Some xs) x e =
             rw (drop-cons values i v, ← q, add-one i, e) (ap Some (and_assoc so_far b (same_lists same xs (drop (suc i) values))))
 
-        read : (o : Option A) (e : option_and_then value (next_word left) ≡ o) → option_map (λ x. same x v) o ≡ Some b → Saying value same left₀ values (after_word left) (so_far && b) (i + 1)
+        read : (o : Option A) (e : option_and_then value (first_word left) ≡ o) → option_map (λ x. same x v) o ≡ Some b → Saying value same left₀ values (after_word left) (so_far && b) (i + 1)
         unfolding elements after_words
         read None e h = cc
         read (Some x) e h =
@@ -42,8 +42,8 @@ module _ {A : Type 0} (value : List ℕ → Option A) (same : A → A → Bool) 
               place = rw one_less at s.place;
             }
 
-        pub saying_goes_on : option_map (λ x. same x v) (option_and_then value (next_word left)) ≡ Some b → Saying value same left₀ values (after_word left) (so_far && b) (i + 1)
-        saying_goes_on e = read (option_and_then value (next_word left)) refl e
+        pub saying_goes_on : option_map (λ x. same x v) (option_and_then value (first_word left)) ≡ Some b → Saying value same left₀ values (after_word left) (so_far && b) (i + 1)
+        saying_goes_on e = read (option_and_then value (first_word left)) refl e
 
   module _ (h : length values ≤ i) where
     none_left : length values - i ≡ 0

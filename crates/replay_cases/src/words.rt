@@ -2,7 +2,7 @@
 // should hold with `?`, and asks for its end last.
 ghost use Rattle.std.specs.Prelude.{◌≡◌, ℕ, Bool, nat_eq, List, Option, ◌+◌, ◌≤◌, ◌↔◌, ◌==◌, Some, None, IsSome, IfSome, OnSome, length, take, drop, option_map, option_and_then};
 ghost use Rattle.std.specs.List.{position};
-ghost use Rattle.replay_cases.specs.Words.{elements, cut, next_word, after_word, after_words, after_values, values_put, list_of, list_put, places, said, said_list};
+ghost use Rattle.replay_cases.specs.Words.{elements, cut, first_word, after_word, after_words, after_values, values_put, list_of, list_put, places, said, said_list};
 ghost use Rattle.replay_cases.specs.Digits.{whole_number_of, float_of};
 ghost use Rattle.replay_cases.specs.Same.{same_bits};
 
@@ -105,9 +105,9 @@ impl<'a> Words<'a> {
     }
 
     // The next word, up to a space or the line's end. An empty word is a fault.
-    #[tactic(auto, unfolding(crate::specs::Words::next_word, crate::specs::Words::after_word))]
+    #[tactic(auto, unfolding(crate::specs::Words::first_word, crate::specs::Words::after_word))]
     pub fn word(&mut self) -> Option<&'a [u8]>
-        ensures value { option_map (λ w. w.now) result ≡ next_word self.old }
+        ensures value { option_map (λ w. w.now) result ≡ first_word self.old }
         ensures rest { self.new ≡ after_word self.old }
     {
         let (word, after) = split_word(self.rest?);
@@ -117,7 +117,7 @@ impl<'a> Words<'a> {
 
     // The next word, which must be `name`.
     pub fn named(&mut self, name: &[u8]) -> Option<()>
-        ensures value { IsSome result ↔ (next_word self.old ≡ Some name.now) }
+        ensures value { IsSome result ↔ (first_word self.old ≡ Some name.now) }
         ensures rest { self.new ≡ after_word self.old }
     {
         let word = self.word()?;
@@ -126,7 +126,7 @@ impl<'a> Words<'a> {
 
     // The number or the float that the next word says.
     pub fn value<T: Value>(&mut self) -> Option<T>
-        ensures value { result ≡ option_and_then T.value_of (next_word self.old) }
+        ensures value { result ≡ option_and_then T.value_of (first_word self.old) }
         ensures rest { self.new ≡ after_word self.old }
     {
         let word = self.word()?;
@@ -179,7 +179,7 @@ impl<'a> Words<'a> {
 
     // Whether the next word says this value.
     pub fn says<T: Value>(&mut self, value: T) -> Option<bool>
-        ensures value { result ≡ option_map (λ x. T.same x value) (option_and_then T.value_of (next_word self.old)) }
+        ensures value { result ≡ option_map (λ x. T.same x value) (option_and_then T.value_of (first_word self.old)) }
         ensures rest { self.new ≡ after_word self.old }
     {
         let said = self.value::<T>()?;
