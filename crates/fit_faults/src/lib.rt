@@ -23,7 +23,7 @@ pub fn all_below(list: &[usize], bound: usize) -> bool
 }
 
 // A number below +infinity.
-#[tactic(auto, using(crate::proofs::Laws::positive_infinity))]
+#[tactic(auto, using(math::specs::laws::Literals::positive_infinity))]
 fn is_lower(x: f64) -> bool
     ensures { result ≡ is_lower x }
 {
@@ -31,7 +31,7 @@ fn is_lower(x: f64) -> bool
 }
 
 // A number above -infinity.
-#[tactic(auto, using(crate::proofs::Laws::negative_infinity))]
+#[tactic(auto, using(math::specs::laws::Literals::negative_infinity))]
 fn is_upper(x: f64) -> bool
     ensures { result ≡ is_upper x }
 {

@@ -1,15 +1,11 @@
 -- The constant -infinity, and the cases of log_sum_exp by computation. Assumes nothing.
-use Rattle.std.specs.Prelude.{ℕ, ◌≡◌, refl, Bool, true, false, List, [], ◌∷◌, T, eqb, Float}
+use Rattle.std.specs.Prelude.{ℕ, Bool, true, false, List, [], ◌∷◌, T, eqb, Float}
 use Rattle.std.specs.Float.{nan, inf, binary64}
-use lib.Ieee.{to_bits, of_bits, is_nan}
+use lib.Ieee.{to_bits, is_nan}
 use Rattle.math.specs.Basic.{zero, max_of, is_finite}
 use Rattle.math.specs.laws.Computes.{exp_computes, ln_computes}
 use Rattle.quadrature.specs.Sums.{log_sum_exp}
 use Rattle.std.specs.List.{list_all}
-
-pub negative_infinity : of_bits binary64 0xfff0_0000_0000_0000 ≡ inf true
-unfolding of_bits
-negative_infinity = refl
 
 -- ---- of no terms, of NaNs alone and with an infinity: -infinity; a NaN beside a number: a NaN; of 0: 0; of 0 and 0: ln 2
 pub record Row : Type 0 where

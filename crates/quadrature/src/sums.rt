@@ -3,7 +3,7 @@ ghost use Rattle.std.specs.Prelude.{◌≡◌};
 ghost use Rattle.quadrature.specs.Sums.{maximum_of, sum_exp_of, log_sum_exp};
 
 // The Rust's m: the maximum of the terms and -infinity; a NaN is passed over.
-#[tactic(auto, using(crate::proofs::SumLaws::negative_infinity))]
+#[tactic(auto, using(math::specs::laws::Literals::negative_infinity))]
 fn maximum(xs: &[f64]) -> f64
     ensures { result ≡ maximum_of xs.now }
 {
@@ -17,7 +17,7 @@ fn sum_exp(xs: &[f64], m: f64) -> f64
     xs.iter().fold(0.0, |s, &x| s + math::exp::exp(x - m))
 }
 
-#[tactic(auto, using(crate::proofs::SumLaws::negative_infinity), unfolding(crate::specs::Sums::log_sum_exp))]
+#[tactic(auto, using(math::specs::laws::Literals::negative_infinity), unfolding(crate::specs::Sums::log_sum_exp))]
 pub fn log_sum_exp(xs: &[f64]) -> f64
     ensures { result ≡ log_sum_exp xs.now }
 {

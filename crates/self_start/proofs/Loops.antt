@@ -3,7 +3,7 @@ use Rattle.std.proofs.Common.{◌≡◌, ℕ, ◌+◌, ◌<◌, ◌≤◌, true,
 use Rattle.std.proofs.Math.Seq.{append_snoc, drop-set-lt}
 use Rattle.std.specs.Float.{nan}
 use Rattle.math.specs.Basic.{add}
-use lib.Ieee.{Float, inf, binary64, of_bits}
+use lib.Ieee.{Float}
 use Rattle.sorting.specs.Pairs.{Pair, pair_at}
 use Rattle.self_start.specs.Points.{near_dose, mean_of_run, points_of_run, averaged_of, swapped}
 use Rattle.self_start.specs.Sides.{put_of}
@@ -45,16 +45,6 @@ pub averaged_none : (l : List Pair) → length l ≡ 0 → averaged_of l ≡ l
 unfolding averaged_of
 averaged_none [] p = refl
 averaged_none (x ∷ l) p = absurd (omega (arith, p))
-
--- ---- where the folds of `range_of` begin
-
-pub least_end : of_bits binary64 0x7ff0_0000_0000_0000 ≡ inf false
-unfolding of_bits
-least_end = refl
-
-pub most_end : of_bits binary64 0xfff0_0000_0000_0000 ≡ inf true
-unfolding of_bits
-most_end = refl
 
 -- ---- a point before the sides so far
 
