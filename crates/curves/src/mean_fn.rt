@@ -13,7 +13,7 @@ use refusal::Refusal;
 // The curves, in the order of their codes. The Rust's enum is `NlmmMeanKind`, with these names.
 #[derive(Clone, Copy, Debug, PartialEq, Eq)]
 pub enum Curve {
-    Sslogis,
+    Sslogis = 1,
     Ssasymp,
     Ssmicmen,
     Ssfpl,
@@ -40,12 +40,7 @@ impl Curve {
     pub fn code(self) -> u64
         ensures { result ≡ code_of self }
     {
-        match self {
-            Curve::Sslogis => 1,
-            Curve::Ssasymp => 2,
-            Curve::Ssmicmen => 3,
-            Curve::Ssfpl => 4,
-        }
+        self as u64
     }
 
     // How many values the curve has.
