@@ -25,11 +25,11 @@ bad_readings doses grams groups = ltb doses 1 || ltb 512 doses || not (eqb grams
 unfoldable pub bad_groups : ℕ → Bool
 bad_groups group_count = ltb group_count 1 || ltb 32 group_count
 
--- 4: a group number not below the group count; 5: an index of an effect not below p
+-- 4: a group number not below the group count; 5: a place of an effect not below p
 abbrev pub all_below : ℕ → List ℕ → Bool
 all_below bound l = every (λ (i : ℕ). ltb i bound) l
 
--- 5: effects not one or two, an index not below p, or two equal
+-- 5: effects not one or two, a place not below p, or two equal
 unfoldable pub bad_effects : ℕ → List ℕ → Bool
 bad_effects p l =
     ltb (length l) 1 || ltb 2 (length l) || not (all_below p l) || (eqb (length l) 2 && eqb (get_or l 0 0) (get_or l 1 0))

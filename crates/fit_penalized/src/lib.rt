@@ -50,7 +50,7 @@ pub fn penalties(q: &NlmmProblem<'_>, b: &[f64]) -> f64
 {
     let k = q.places.len();
     let mut t = 0.0;
-    // By index: `chunks_exact(k)` would go over b[..q.groups * k], cut by the same product, and is no plainer.
+    // By index: `chunks_exact(k)` would go over b[..q.group_count * k], cut by the same product, and is no plainer.
     for g in 0..q.group_count {
         let from = g * k;
         t += re_penalty(k, q.theta, &b[from..from + k]);

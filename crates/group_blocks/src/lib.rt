@@ -11,7 +11,7 @@ ghost use Rattle.group_blocks.specs.Components.{columns_times, effects_of, compo
 use linalg::elimination::System;
 use linalg::pair::solve_pair;
 
-// How many curve values, effects of a group and groups there are: p, k and groups.
+// How many curve values, effects of a group and groups there are: p, k and group_count.
 #[derive(Clone, Copy)]
 pub struct Shape {
     pub p: usize,

@@ -1,4 +1,4 @@
--- The constant -infinity, and the cases of log_sum_exp by computation. Assumes nothing.
+-- The cases of log_sum_exp by computation. Assumes nothing.
 use Rattle.std.specs.Prelude.{ℕ, Bool, true, false, List, [], ◌∷◌, T, eqb, Float}
 use Rattle.std.specs.Float.{nan, inf, binary64}
 use lib.Ieee.{to_bits, is_nan}

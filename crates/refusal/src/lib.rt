@@ -15,7 +15,7 @@ pub enum Refusal {
     Groups,
     // A reading's group is not below the number of groups.
     Group,
-    // Neither one effect nor two, an index not below the number of curve values, or two equal ones.
+    // Neither one effect nor two, a place not below the number of curve values, or two equal ones.
     Effects,
     // A list of starts, bounds, group bounds, theta or curve values of the wrong length.
     Lengths,

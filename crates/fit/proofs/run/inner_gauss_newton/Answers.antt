@@ -1,4 +1,4 @@
--- The direction has p + groups * k places, at most 68. Assumes nothing.
+-- The direction has p + group_count * k places, at most 68. Assumes nothing.
 use mathlib.Core.Path.{sym}
 use Prim.Native.Nat.{◌+◌, ◌*◌, ◌≤◌}
 use native.Mathlib.Omega.{arith}
