@@ -27,13 +27,20 @@ pub fn past(text: &[u8], at: usize, a: u8, b: u8) -> usize
     }
 }
 
+// What stands from `at` on. Not the iterator's `skip`, which walks from the text's first byte.
+pub fn rest(text: &[u8], at: usize) -> &[u8]
+    ensures { result.now ≡ drop at text.now }
+{
+    text.get(at..).unwrap_or(&[])
+}
+
 // How many digits stand from `at` on.
 fn digits_at(text: &[u8], at: usize) -> usize
     ensures value { result ≡ length (take_while is_ascii_digit (drop at text.now)) }
     ensures upper_bound { result ≤ length text.now - at }
 {
-    text.iter()
-        .skip(at)
+    rest(text, at)
+        .iter()
         .take_while(|b| b.is_ascii_digit())
         .count()
 }
@@ -54,6 +61,10 @@ pub fn number(digits: &[u8], n: u64) -> u64
 {
     let mut m = n.min(LIMIT);
     for b in digits {
+        // Further digits change nothing, however many they are.
+        if m == LIMIT {
+            return LIMIT;
+        }
         m = (m * 10 + u64::from(b.saturating_sub(b'0'))).min(LIMIT);
     }
     m

@@ -3,6 +3,8 @@ ghost use Rattle.std.specs.Prelude.{◌≡◌, ◌-◌, ◌≤◌, ◌<◌, not,
 ghost use Rattle.std.specs.Bool.{OnTrue};
 ghost use Rattle.read_table.specs.Classes.{is_space, is_separator, is_name_byte, stops_at, meets, scan_of};
 
+use read_decimal::scan::rest;
+
 fn is_space(b: u8) -> bool
     ensures { result ≡ is_space b }
 {
@@ -68,8 +70,8 @@ fn bytes_before(text: &[u8], at: usize, stop: Stop) -> usize
     ensures value { result ≡ length (take_while (λ b. not (stops_at stop b)) (drop at text.now)) }
     ensures upper_bound { result ≤ length text.now - at }
 {
-    text.iter()
-        .skip(at)
+    rest(text, at)
+        .iter()
         .take_while(|b| !stop.stops_at(**b))
         .count()
 }
