@@ -1,7 +1,7 @@
 -- A line of an operation is counted of that one alone. Assumes nothing.
 use Rattle.std.proofs.Common.{◌≡◌, sym, ap, ◌∙◌, ℕ, ◌<◌, List, length, map, set, get_or}
-use Rattle.std.proofs.Math.Seq.{map-set_same}
-use Rattle.std.proofs.lemmas.List.{map-set, get_or-map}
+use Rattle.std.proofs.Math.Seq.{map-set_same, take-set-lt}
+use Rattle.std.proofs.lemmas.List.{map-set, get_or-map, length-take-le}
 use Rattle.replay_cases.specs.Counts.{Counts, counts_of, no_lines, agreed, differed}
 use Rattle.replay_cases.specs.declared.tally.Operation.{Operation}
 
@@ -21,4 +21,4 @@ module _ (operations : List Operation) (op : ℕ) (before after : Operation) (h 
     pub one_differs : (number : ℕ) → counts_of after ≡ differed number (counts_of before) → map counts_of (set operations op after) ≡ set (map counts_of operations) op (differed number (get_or (map counts_of operations) op no_lines))
     one_differs number e = counts_of_set (differed number) e
 
-pub ruleset counting = (names_stay, one_agrees, one_differs)
+pub ruleset counting = (names_stay, one_agrees, one_differs, take-set-lt, length-take-le)

@@ -1,8 +1,13 @@
 -- What is counted of lines.
-use Rattle.std.specs.Prelude.{ℕ, ◌+◌, ◌-◌, ◌^◌, min, Bool, true, leb, List, get_or, set, Option, Some, None}
+use Rattle.std.specs.Prelude.{ℕ, ◌+◌, ◌-◌, ◌^◌, min, Bool, true, leb, List, get_or, set, take, Option, Some, None}
 use Rattle.std.specs.Option.{option_or}
 use Rattle.replay_cases.specs.declared.tally.Operation.{Operation}
+use Rattle.replay_cases.specs.declared.tally.Tally.{Tally}
 use Rattle.replay_cases.specs.declared.tally.Verdict.{Verdict}
+
+-- the operations of a tally, without the room that is left
+abbrev pub operations_of : Tally → List Operation
+operations_of t = take t.used t.room
 
 -- the lines of an operation, how many agree, and the first that differs
 abbrev pub Counts : Type 0

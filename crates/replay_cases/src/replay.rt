@@ -1,10 +1,11 @@
 // Every line of an input, judged and counted.
-ghost use Rattle.std.specs.Prelude.{◌≡◌, ◌<◌, length, map, IfSome, IfOk};
+ghost use Rattle.std.specs.Prelude.{◌≡◌, ◌<◌, ◌≤◌, length, map, IfSome};
+ghost use Rattle.replay_cases.specs.Counts.{operations_of};
 
 use crate::lines::Lines;
-use crate::tally::{Operation, Tally, Verdict, verdict_of};
+use crate::tally::{Operation, ROOM, Tally, Verdict, verdict_of};
 use crate::words::Words;
-use std::alloc::{AllocError, Global};
+use std::alloc::Global;
 use std::io;
 use std::io::{BufRead, BufReader};
 
@@ -40,21 +41,22 @@ pub fn replay<B: BufRead + Drop, J: Fn(&str, &mut Words<'_>) -> Option<bool>>(
     input: B,
     names: &[&'static str],
     judge: J,
-) -> Result<Tally, AllocError>
-    requires { J.IsAlwaysCallable judge }
-    ensures names { IfOk result (λ t. map (λ o. o.name) t.operations.items ≡ names.now) }
+) -> Tally
+    requires judge { J.IsAlwaysCallable judge }
+    requires names { length names.now ≤ ROOM }
+    ensures names { map (λ o. o.name) (operations_of result) ≡ names.now }
 {
-    let mut tally = Tally::new(alloc, names)?;
+    let mut tally = Tally::new(names);
     for (number, line) in (1..u64::MAX).zip(Lines::new(alloc, input)) {
         match line {
             Ok(line) => {
-                let verdict = verdict(&line, &tally.operations, &judge);
+                let verdict = verdict(&line, tally.operations(), &judge);
                 tally.count(number, verdict);
             }
             Err(_) => tally.count_unread(),
         }
     }
-    Ok(tally)
+    tally
 }
 
 // A whole program: standard input replayed, and the tally printed. It states nothing: std's contracts say neither what the input
@@ -64,36 +66,37 @@ pub fn replay_input<R: Input + Print + AllocGlobal, J: Fn(&str, &mut Words<'_>) 
     names: &[&'static str],
     judge: J,
 ) -> io::Result<()>
-    requires { J.IsAlwaysCallable judge }
+    requires judge { J.IsAlwaysCallable judge }
+    requires names { length names.now ≤ ROOM }
 {
     let input = BufReader::new(rt.alloc(), rt.reader())?;
-    let tally = replay(rt.alloc(), input, names, judge)?;
+    let tally = replay(rt.alloc(), input, names, judge);
     print!(rt; "{tally}")
 }
 
 #[cfg(test)]
 mod tests {
     use super::*;
-    use std::test::Fail;
 
     // A judge of lines `NAME 1`.
     fn says_one(_name: &str, words: &mut Words<'_>) -> Option<bool> {
         words.says(1u64)
     }
 
-    // There is memory for the operations and for each line.
+    // There is memory for each line.
     #[test]
-    fn counts_each_line(rt: HostRuntime) -> Result<(), Fail> {
+    fn counts_each_line(rt: HostRuntime) {
         let input: &[u8] = b"a 1\nb 2\na\nc 1\na 1\nb 1";
-        let tally = replay(rt.alloc(), input, &["a", "b"], says_one)?;
-        assert!(rt; tally.operations.len() == 2, "two operations");
-        assert!(rt; tally.operations[0].lines == 2);
-        assert!(rt; tally.operations[0].agree == 2);
-        assert!(rt; tally.operations[1].lines == 1);
-        assert!(rt; tally.operations[1].first_differs == Some(2));
+        let tally = replay(rt.alloc(), input, &["a", "b"], says_one);
+        assert!(rt; tally.operations().len() == 2, "two operations");
+        let a = tally.operations()[0];
+        assert!(rt; a.lines == 2);
+        assert!(rt; a.agree == 2);
+        let b = tally.operations()[1];
+        assert!(rt; b.lines == 1);
+        assert!(rt; b.first_differs == Some(2));
         assert!(rt; tally.malformed == 2);
         assert!(rt; tally.first_malformed == Some(3));
         assert!(rt; tally.unread == 1);
-        Ok(())
     }
 }

@@ -1,9 +1,9 @@
 // What a replay counts and prints.
-ghost use Rattle.std.specs.Prelude.{◌≡◌, ◌≤◌, if◌then◌else◌, map, replicate, Some, None, IfOk, length, vec_len};
+ghost use Rattle.std.specs.Prelude.{◌≡◌, ◌≤◌, if◌then◌else◌, map, replicate, length, Some, None};
 ghost use Rattle.std.specs.Option.{option_or};
 ghost use Rattle.replay_cases.specs.Tally.{verdict_of};
+ghost use Rattle.replay_cases.specs.declared.tally.TheConstants.{ROOM};
 
-use std::alloc::{AllocError, Global};
 use std::fmt;
 
 // What a line comes to: the operation's place, and whether the answers agree.
@@ -51,10 +51,10 @@ impl Operation {
         }
     }
 
-    // Line `number` is one of this operation.
-    fn count(&mut self, number: u64, agrees: bool)
-        ensures name { self.new.name ≡ self.old.name }
-        ensures counts { counts_of self.new ≡ (if agrees then agreed (counts_of self.old) else differed number (counts_of self.old)) }
+    // With line `number`, which is one of this operation.
+    fn counted(mut self, number: u64, agrees: bool) -> Self
+        ensures name { result.name ≡ self.name }
+        ensures counts { counts_of result ≡ (if agrees then agreed (counts_of self) else differed number (counts_of self)) }
     {
         self.lines = self.lines.saturating_add(1);
         if agrees {
@@ -62,6 +62,7 @@ impl Operation {
         } else {
             self.first_differs = self.first_differs.or(Some(number));
         }
+        self
     }
 }
 
@@ -76,52 +77,70 @@ impl fmt::Display for Operation {
     }
 }
 
-#[derive(Debug, Drop)]
+// The most operations of a tally. They stand in an array and no `Vec`, so that a tally is copied and beginning one can't fail. The
+// array's length is no const parameter: the kit proves nothing of one whose elements hold references, as the names are.
+pub const ROOM: usize = 16;
+
+#[derive(Clone, Copy, Debug)]
 pub struct Tally {
-    pub operations: Vec<Operation>,
+    room: [Operation; ROOM],
+    // How many of the room's places are operations; they come first.
+    used: usize,
     pub malformed: u64,
     pub first_malformed: Option<u64>,
     // Lines without an end or too long, and a failed read.
     pub unread: u64,
+    // Of an array behind a `&mut` no proof knows the length.
+    ghost places: { length room ≡ ROOM },
+    ghost fits: { used ≤ ROOM },
 }
 
 impl Tally {
-    ghost use Rattle.replay_cases.specs.Counts.{counts_of, no_lines, count_up, counts_after, is_malformed};
+    ghost use Rattle.replay_cases.specs.Counts.{operations_of, counts_of, no_lines, count_up, counts_after, is_malformed};
 
-    pub fn new(alloc: Global, names: &[&'static str]) -> Result<Self, AllocError>
-        ensures names { IfOk result (λ t. map (λ o. o.name) t.operations.items ≡ names.now) }
-        ensures counts { IfOk result (λ t. map counts_of t.operations.items ≡ replicate (length names.now) no_lines) }
-        ensures malformed { IfOk result (λ t. t.malformed ≡ 0) }
-        ensures first { IfOk result (λ t. t.first_malformed ≡ None) }
-        ensures unread { IfOk result (λ t. t.unread ≡ 0) }
+    pub fn new(names: &[&'static str]) -> Self
+        requires { length names.now ≤ ROOM }
+        ensures names { map (λ o. o.name) (operations_of result) ≡ names.now }
+        ensures counts { map counts_of (operations_of result) ≡ replicate (length names.now) no_lines }
+        ensures malformed { result.malformed ≡ 0 }
+        ensures first { result.first_malformed ≡ None }
+        ensures unread { result.unread ≡ 0 }
     {
-        let mut operations = Vec::new(alloc);
-        for name in names {
-            operations.push(Operation::new(name))?;
+        let mut room = [Operation::new(""); ROOM];
+        for (i, name) in names.iter().enumerate() {
+            room[i] = Operation::new(name);
         }
-        Ok(Tally {
-            operations,
+        Tally {
+            room,
+            used: names.len(),
             malformed: 0,
             first_malformed: None,
             unread: 0,
-        })
+        }
+    }
+
+    // Of each name one, in the order of the names.
+    pub fn operations(&self) -> &[Operation]
+        ensures { result.now ≡ operations_of self.now }
+    {
+        &self.room[..self.used]
     }
 
     // The line of this number, counted.
     #[tactic(auto, using(crate::proofs::Counts::counting))]
     pub fn count(&mut self, number: u64, verdict: Verdict)
-        ensures names { map (λ o. o.name) self.new.operations.items ≡ map (λ o. o.name) self.old.operations.items }
-        ensures counts { map counts_of self.new.operations.items ≡ counts_after number verdict (map counts_of self.old.operations.items) }
-        ensures malformed { self.new.malformed ≡ (if is_malformed (vec_len self.old.operations) verdict then count_up self.old.malformed else self.old.malformed) }
-        ensures first { self.new.first_malformed ≡ (if is_malformed (vec_len self.old.operations) verdict then option_or self.old.first_malformed (Some number) else self.old.first_malformed) }
+        ensures names { map (λ o. o.name) (operations_of self.new) ≡ map (λ o. o.name) (operations_of self.old) }
+        ensures counts { map counts_of (operations_of self.new) ≡ counts_after number verdict (map counts_of (operations_of self.old)) }
+        ensures malformed { self.new.malformed ≡ (if is_malformed (length (operations_of self.old)) verdict then count_up self.old.malformed else self.old.malformed) }
+        ensures first { self.new.first_malformed ≡ (if is_malformed (length (operations_of self.old)) verdict then option_or self.old.first_malformed (Some number) else self.old.first_malformed) }
         ensures unread { self.new.unread ≡ self.old.unread }
     {
         match verdict {
-            Verdict::Agrees(op) if op < self.operations.len() => {
-                self.operations[op].count(number, true)
+            Verdict::Agrees(op) if op < self.used => {
+                self.room[op] = self.operations()[op].counted(number, true)
             }
-            Verdict::Differs(op) if op < self.operations.len() => {
-                self.operations[op].count(number, false)
+            Verdict::Differs(op) if op < self.used => {
+                self.room[op] = self.operations()[op].counted(number, false)
             }
             _ => {
                 self.malformed = self.malformed.saturating_add(1);
@@ -131,7 +150,7 @@ impl Tally {
     }
 
     pub fn count_unread(&mut self)
-        ensures operations { self.new.operations ≡ self.old.operations }
+        ensures operations { operations_of self.new ≡ operations_of self.old }
         ensures malformed { self.new.malformed ≡ self.old.malformed }
         ensures first { self.new.first_malformed ≡ self.old.first_malformed }
         ensures unread { self.new.unread ≡ count_up self.old.unread }
@@ -143,7 +162,7 @@ impl Tally {
 // Each operation, then `malformed: 0`, and what else went wrong, if anything did.
 impl fmt::Display for Tally {
     fn fmt<W: fmt::Write>(&self, f: &mut fmt::Formatter<W>) -> fmt::Result {
-        for operation in &self.operations {
+        for operation in self.operations() {
             write!(f, "{operation}")?;
         }
         writeln!(f, "malformed: {}", self.malformed)?;
@@ -160,16 +179,28 @@ impl fmt::Display for Tally {
 #[cfg(test)]
 mod tests {
     use super::*;
-    use std::test::Fail;
 
-    // There is memory for the operations, also for none.
     #[test]
-    fn begins_with_no_lines(rt: HostRuntime) -> Result<(), Fail> {
-        let tally = Tally::new(rt.alloc(), &["a", "b", "c"])?;
-        assert!(rt; tally.operations.len() == 3);
+    fn begins_with_no_lines(rt: HostRuntime) {
+        let tally = Tally::new(&["a", "b", "c"]);
+        assert!(rt; tally.operations().len() == 3);
         assert!(rt; tally.unread == 0);
-        let none = Tally::new(rt.alloc(), &[])?;
-        assert!(rt; none.operations.is_empty());
-        Ok(())
+        let none = Tally::new(&[]);
+        assert!(rt; none.operations().is_empty());
+    }
+
+    // The first stays as it was.
+    #[test]
+    fn counts_on_in_a_copy(rt: HostRuntime) {
+        let first = Tally::new(&["a"]);
+        let mut copy = first;
+        copy.count(1, Verdict::Agrees(0));
+        copy.count(2, Verdict::Malformed);
+        assert!(rt; copy.operations().len() == 1);
+        assert!(rt; copy.operations()[0].lines == 1);
+        assert!(rt; copy.malformed == 1);
+        assert!(rt; first.operations().len() == 1);
+        assert!(rt; first.operations()[0].lines == 0);
+        assert!(rt; first.malformed == 0);
     }
 }

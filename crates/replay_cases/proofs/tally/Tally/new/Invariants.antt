@@ -1,9 +1,11 @@
--- An operation without lines for each name.
-use Rattle.std.proofs.Common.{◌≡◌, map, take, replicate}
+-- An operation without lines for each name so far.
+use Rattle.std.proofs.Common.{◌≡◌, map, length, take, replicate}
 use Rattle.replay_cases.specs.Counts.{counts_of, no_lines}
+use Rattle.replay_cases.specs.declared.tally.TheConstants.{ROOM}
 use Rattle.replay_cases.proofs.tally.Tally.new.Given as goal
 
-abbrev pub invariant-loop-name : goal.invariant-loop-name
-invariant-loop-name l =
-    (map (λ o. o.name) l.operations.items ≡ take l.name-index l.names)
-    × (map counts_of l.operations.items ≡ replicate l.name-index no_lines)
+abbrev pub invariant-loop-i : goal.invariant-loop-i
+invariant-loop-i l =
+    (length l.room ≡ ROOM)
+    × (map (λ o. o.name) (take l.i l.room) ≡ take l.i l.names)
+    × (map counts_of (take l.i l.room) ≡ replicate l.i no_lines)
