@@ -3,11 +3,9 @@
 // where all of them fit; `wrote` says too what a full buffer holds.
 #![tactic(auto)]
 
-ghost use Rattle.std.specs.Prelude.{◌≡◌, ◌≤◌, ◌∷◌, [], length, take, drop};
+ghost use Rattle.std.specs.Prelude.{◌≡◌, ◌∷◌, []};
 ghost use Rattle.std.proofs.Math.Seq.{slice};
-ghost use Rattle.text_buffer.specs.Text.{Written, empty, wrote, whole_text};
-
-use std::marker::Model;
+ghost use Rattle.text_buffer.specs.Text.{empty, full, text, whole_text, wrote};
 
 // A part of a text, by where it begins and ends; no slice, of which a contract would tell the bytes and not where they stand,
 // as read_table's does of each name.
@@ -28,44 +26,40 @@ impl Span {
 }
 
 // A lent buffer and not a String: but for the replays (replay_cases) and refit's words of a system's error, nothing here has a heap.
-// `full` is not read off `at`: what fills the buffer to its end has fitted.
-#[derive(Drop)]
+// `at` lies past the buffer's end once something did not fit: what fills the buffer to its end has fitted. No model: one would
+// hide from whoever lent the buffer what it holds after the text has ended (`lent` of specs/laws/Text.antt).
 pub struct Text<'a> {
     out: &'a mut [u8],
     at: usize,
-    full: bool,
 }
 
-impl<'a> Model for Text<'a> {
-    ghost Value = { Written };
-
-    ghost view = { λ a. record { text = take a.at a.out.now; rest = drop a.at a.out.now; full = a.full } };
-
-    ghost invariant = { λ a. a.at ≤ length a.out.now };
+// Whoever lent the buffer finds in it what the text held.
+impl Drop for Text<'_> {
+    fn drop(self)
+        ensures { self.exit.0.now ≡ self.entry.out.now }
+    {
+        let Text { out: _out, at: _at } = self;
+    }
 }
 
 impl<'a> Text<'a> {
     pub fn new(out: &'a mut [u8]) -> Text<'a>
-        ensures { result ≡ empty out.old }
+        ensures { result ≡ empty out.entry }
     {
-        Text {
-            out,
-            at: 0,
-            full: false,
-        }
+        Text { out, at: 0 }
     }
 
     pub fn written(&self) -> &[u8]
-        ensures { result.now ≡ self.now.text }
+        ensures { result.now ≡ text self.now }
     {
-        &self.out[..self.at]
+        &self.out[..self.at.min(self.out.len())]
     }
 
     // Whether something did not fit.
     pub fn is_full(&self) -> bool
-        ensures { result ≡ self.now.full }
+        ensures { result ≡ full self.now }
     {
-        self.full
+        self.out.len() < self.at
     }
 
     // As much of the text as fits.
@@ -73,13 +67,16 @@ impl<'a> Text<'a> {
     pub fn put(&mut self, text: &[u8])
         ensures { self.new ≡ wrote self.old text.now }
     {
-        if self.full {
+        if self.out.len() < self.at {
             return;
         }
         let n = text.len().min(self.out.len() - self.at);
         self.out[self.at..self.at + n].copy_from_slice(&text[..n]);
-        self.at += n;
-        self.full = n < text.len();
+        self.at = if n < text.len() {
+            self.out.len() + 1
+        } else {
+            self.at + n
+        };
     }
 
     pub fn byte(&mut self, b: u8)

@@ -1,7 +1,8 @@
 // Columns: text at the right or the left of a given width, spaces beside it. A text that is wider is written whole.
-ghost use Rattle.std.specs.Prelude.{◌-◌, ◌≡◌, replicate};
+ghost use Rattle.std.specs.Prelude.{◌-◌, ◌≡◌, ℕ, List, replicate};
+ghost use Rattle.std.specs.Borrow.{MutBor};
 ghost use Rattle.std.specs.Fn.{FnOnceReturnsAtMut};
-ghost use Rattle.text_buffer.specs.Text.{Written, empty, wrote};
+ghost use Rattle.text_buffer.specs.Text.{Written, empty, text, wrote};
 ghost use Rattle.text_floats.specs.Floats.{fixed_text, figure_text};
 ghost use Rattle.text_lines.specs.Lines.{spaces, left_text, right_text, cell_text};
 
@@ -39,7 +40,7 @@ const ROOM: usize = 64;
 // What `write` leaves in an empty room, at the right of the width.
 fn cell<F: FnOnce(&mut Text<'_>)>(out: &mut Text<'_>, width: usize, write: F)
     requires { F.IsAlwaysCallable write }
-    ensures { (t : Written) × FnOnceReturnsAtMut F.FnOnce write (empty (replicate 64 0)) tt t × (out.new ≡ wrote out.old (right_text width t.text)) }
+    ensures { (room : MutBor (List ℕ)) × (t : Written) × (room.now ≡ replicate 64 0) × FnOnceReturnsAtMut F.FnOnce write (empty room) tt t × (out.new ≡ wrote out.old (right_text width (text t))) }
 {
     let mut room = [0; ROOM];
     let mut text = Text::new(&mut room);
