@@ -1,5 +1,5 @@
 // Columns: text at the right or the left of a given width, spaces beside it. A text that is wider is written whole.
-ghost use Rattle.std.specs.Prelude.{◌-◌, ◌≡◌, ℕ, List, replicate};
+ghost use Rattle.std.specs.Prelude.{◌-◌, ◌≡◌, ◌++◌, ℕ, List, drop, length, replicate, take};
 ghost use Rattle.std.specs.Borrow.{MutBor};
 ghost use Rattle.std.specs.Fn.{FnOnceReturnsAtMut};
 ghost use Rattle.text_buffer.specs.Text.{Written, empty, text, wrote};
@@ -61,4 +61,25 @@ pub fn figure(out: &mut Text<'_>, width: usize, x: f64)
     ensures { out.new ≡ wrote out.old (cell_text width (figure_text x)) }
 {
     cell(out, width, |text| text_floats::figure(text, x));
+}
+
+#[cfg(test)]
+mod tests {
+    use super::*;
+
+    // Whoever lends a buffer knows each byte of it afterwards: what was written, then the rest as it was.
+    #[tactic(auto, using(text_buffer::specs::laws::Text::lending))]
+    fn lend(out: &mut [u8], width: usize, word: &[u8])
+        ensures { out.new ≡ take (length out.old) (right_text width word.now) ++ drop (length (right_text width word.now)) out.old }
+    {
+        let mut text = Text::new(out);
+        right(&mut text, width, word);
+    }
+
+    #[test]
+    fn the_lender_knows_each_byte(rt: HostRuntime) {
+        let mut out = *b"......";
+        lend(&mut out, 4, b"ok");
+        assert!(rt; out == *b"  ok..");
+    }
 }
