@@ -1,5 +1,6 @@
 -- The tables of quadrature.rs by its decimals, and gh_rule.
 use Rattle.std.specs.Prelude.{false, cond, List, [], ◌∷◌, ◌++◌, map, reverse, ℕ, ◌^◌, eqb, get_or, Float}
+use Rattle.std.specs.List.{zip}
 use Rattle.std.specs.Float.{nan, binary64}
 use Rattle.std.specs.Float.Ieee.{round, neg}
 use Rattle.math.specs.Basic.{zero}
@@ -58,6 +59,13 @@ gh_nodes n = of_order n z3 z5 z7 z9 z11
 
 unfoldable pub gh_weights : ℕ → List Float
 gh_weights n = of_order n w3 w5 w7 w9 w11
+
+-- an order's nodes, each with its weight, and those of all orders one after the other
+abbrev pub points_of : ℕ → List (Float × Float)
+points_of n = zip (gh_nodes n) (gh_weights n)
+
+unfoldable pub all_points : List (Float × Float)
+all_points = points_of 3 ++ points_of 5 ++ points_of 7 ++ points_of 9 ++ points_of 11
 
 -- a node and its weight at place i; NaNs where there is none
 abbrev pub point_at : List Float → List Float → ℕ → Point

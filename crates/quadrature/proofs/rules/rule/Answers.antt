@@ -1,29 +1,29 @@
--- At each order the definition's lists compute to the decimals of the code's table, rounded. Assumes nothing.
-use lib.Ieee.{of_bits, round, neg}
+-- Each order's points are a part of the list. Assumes nothing.
+use lib.Ieee.{round, neg}
 use Rattle.std.proofs.Common.{refl, arith}
 use Rattle.std.proofs.lemmas.Bool.Decides.{nat_tests}
-use Rattle.quadrature.specs.Rules.{gh_nodes, gh_weights, z3, z5, z7, z9, z11, w3, w5, w7, w9, w11}
+use Rattle.quadrature.specs.Rules.{gh_nodes, gh_weights, z3, z5, z7, z9, z11, w3, w5, w7, w9, w11, all_points}
 use Rattle.quadrature.proofs.rules.rule.Goals as goal
 
 pub returns-in-3 : goal.returns-in-3
-unfolding gh_nodes gh_weights z3 w3 of_bits round neg
-returns-in-3 c = rw c.in-3.is refl
+unfolding gh_nodes gh_weights z3 z5 z7 z9 z11 w3 w5 w7 w9 w11 all_points round neg
+returns-in-3 c = rw (c.in-3.is, c.part.ensures) refl
 
 pub returns-in-5 : goal.returns-in-5
-unfolding gh_nodes gh_weights z5 w5 of_bits round neg
-returns-in-5 c = rw c.in-5.is refl
+unfolding gh_nodes gh_weights z3 z5 z7 z9 z11 w3 w5 w7 w9 w11 all_points round neg
+returns-in-5 c = rw (c.in-5.is, c.part-in-5.ensures) refl
 
 pub returns-in-7 : goal.returns-in-7
-unfolding gh_nodes gh_weights z7 w7 of_bits round neg
-returns-in-7 c = rw c.in-7.is refl
+unfolding gh_nodes gh_weights z3 z5 z7 z9 z11 w3 w5 w7 w9 w11 all_points round neg
+returns-in-7 c = rw (c.in-7.is, c.part-in-7.ensures) refl
 
 pub returns-in-9 : goal.returns-in-9
-unfolding gh_nodes gh_weights z9 w9 of_bits round neg
-returns-in-9 c = rw c.in-9.is refl
+unfolding gh_nodes gh_weights z3 z5 z7 z9 z11 w3 w5 w7 w9 w11 all_points round neg
+returns-in-9 c = rw (c.in-9.is, c.part-in-9.ensures) refl
 
 pub returns-in-11 : goal.returns-in-11
-unfolding gh_nodes gh_weights z11 w11 of_bits round neg
-returns-in-11 c = rw c.in-11.is refl
+unfolding gh_nodes gh_weights z3 z5 z7 z9 z11 w3 w5 w7 w9 w11 all_points round neg
+returns-in-11 c = rw (c.in-11.is, c.part-in-11.ensures) refl
 
 pub returns-in_default : goal.returns-in_default
 unfolding gh_nodes gh_weights
