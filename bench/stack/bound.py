@@ -6,7 +6,7 @@ Every path of every function is followed (objdump's listing, with the relocation
 frames of callees are added, and the one function that calls itself, the sort of at most 512 readings, is counted
 at the six levels that halving 512 down to 16 has. The return address counts; the arguments that the caller
 pushes, and what memcpy and memset need beyond their return address, do not. It ends with an error where the header
-states another figure.
+states another figure, and where a section of the archive may be written, which the header denies.
 """
 
 import re
@@ -34,6 +34,13 @@ def functions(archive):
         elif (m := LINE.match(line)) and "R_X86_64" not in line:
             body.append([int(m[1], 16), m[2], m[3], None])
     return found
+
+
+def writable(archive):
+    """The sections that a linker lays into memory which may be written, if anything stands in them."""
+    listing = subprocess.run(["objdump", "-h", archive], capture_output=True, text=True, check=True)
+    rows = re.findall(r"^ *\d+ (\S+) +([0-9a-f]+) .*\n +(\S.*)$", listing.stdout, re.M)
+    return [name for name, size, flags in rows if int(size, 16) and "ALLOC" in flags and "READONLY" not in flags]
 
 
 def moved(mnemonic, operands):
@@ -117,6 +124,8 @@ def main():
             stale.append(name)
     if stale:
         sys.exit(f"bound: {sys.argv[2]} states another figure for {', '.join(stale)}")
+    if sections := writable(sys.argv[1]):
+        sys.exit(f"bound: the archive has writable data: {', '.join(sections)}")
 
 
 main()
