@@ -1,7 +1,7 @@
 // A curve's values, and the curve of a reading whose group has effects. Four places hold a curve's
 // values; those past its last are not read.
 ghost use Rattle.std.specs.Prelude.{◌≡◌};
-ghost use Rattle.curves.specs.MeanFn.{Decodes, code_of, n_params_of, scal_index_of, four_of, eval_of, effective_of, eval_with_re_of};
+ghost use Rattle.curves.specs.MeanFn.{Decodes, code_of, n_params_of, scal_index_of, four_of, eval_of, add_at, effective_of, eval_with_re_of};
 
 use crate::Mean;
 use crate::ssasymp::ssasymp_eval;
@@ -67,6 +67,8 @@ impl Curve {
         }
     }
 
+    // Inlined, here and below: where the curve is known no other is asked for, and a mean is not handed over through memory.
+    #[inline(always)]
     #[tactic(auto, unfolding(crate::specs::MeanFn::eval_of))]
     pub fn eval(self, x: f64, params: [f64; 4]) -> Mean
         ensures { result ≡ eval_of (code_of self) params x }
@@ -80,6 +82,7 @@ impl Curve {
     }
 
     // The curve at the values with each effect added at its place.
+    #[inline(always)]
     #[tactic(auto, unfolding(crate::specs::MeanFn::eval_with_re_of))]
     pub fn eval_mean_with_re(
         self,
@@ -106,17 +109,34 @@ pub fn four(values: &[f64]) -> [f64; 4]
     ]
 }
 
-// The values with each effect added at its place; a place past the fourth value adds nothing. The
-// places are as C lends them, the effects a part of what a fit has found: no list of pairs.
-#[tactic(auto, using(crate::proofs::Laws::effective_none, crate::proofs::Laws::effective_short, std::proofs::lemmas::List::set_past), unfolding(crate::specs::MeanFn::effective_of))]
+// An effect added at its place; a place past the fourth value adds nothing. By the place and no index: the values stay out of
+// memory, and those that a curve does not read cost nothing.
+#[inline(always)]
+#[tactic(auto, using(std::proofs::lemmas::List::set_past))]
+fn add_at(v: [f64; 4], i: usize, effect: f64) -> [f64; 4]
+    ensures { result ≡ add_at i effect v }
+{
+    let [a, b, c, d] = v;
+    match i {
+        0 => [a + effect, b, c, d],
+        1 => [a, b + effect, c, d],
+        2 => [a, b, c + effect, d],
+        3 => [a, b, c, d + effect],
+        _ => v,
+    }
+}
+
+// The values with each effect added at its place. The places are as C lends them, the effects a part of what a fit has found: no
+// list of pairs.
+#[inline(always)]
+#[tactic(auto, using(crate::proofs::Laws::effective_none, crate::proofs::Laws::effective_short), unfolding(crate::specs::MeanFn::effective_of))]
 pub fn effective(params: [f64; 4], places: &[usize], effects: &[f64]) -> [f64; 4]
     ensures { result ≡ effective_of places.now effects.now params }
 {
     let mut v = params;
     for (&i, &effect) in places.iter().zip(effects) {
-        if i < v.len() {
-            v[i] += effect;
-        }
+        let moved = add_at(v, i, effect);
+        v = moved;
     }
     v
 }

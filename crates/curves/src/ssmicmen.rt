@@ -26,8 +26,13 @@ pub fn ssmicmen_eval(vmax: f64, k: f64, x: f64) -> Mean
 {
     let denom = k + x;
 
+    // Of a sum that is not infinite nothing more is asked: in one condition the compiler asks all three at each reading.
+    if !math::is_infinite(denom) {
+        return micmen_at(vmax, x / denom, 1.0, denom);
+    }
+
     // Only a sum of two finite floats that overflows is scaled.
-    let overflows = math::is_infinite(denom) && math::is_finite(k) && math::is_finite(x);
+    let overflows = math::is_finite(k) && math::is_finite(x);
     if overflows {
         let scale = math::max(math::abs(k), math::abs(x));
         let scaled_denom = k / scale + x / scale;

@@ -9,37 +9,62 @@ ghost use Rattle.fit_refusals.specs.Problem.{k};
 ghost use Rattle.fit_refusals.specs.Given.{checked};
 ghost use Rattle.fit_penalized.specs.Penalized.{mean_at, rss_of, penalty_sum, Means};
 
-use curves::Mean;
+use curves::{Curve, Mean};
 use fit_refusals::{MAX_READINGS, NlmmProblem};
 use fit_step::State;
 use re_cov::re_penalty;
 
 // The curve of reading i, with its group's effects. By index: a call lends the readings' lists apart.
+#[inline(always)]
 #[tactic(auto, using(fit_step::specs::laws::Sized::slot_fits))]
-fn mean_at(q: &NlmmProblem<'_>, s: &State, i: usize) -> Mean
-    requires { i < length q.now.doses.now }
+fn mean_at(curve: Curve, q: &NlmmProblem<'_>, s: &State, i: usize) -> Mean
+    requires same_curve { curve ≡ q.now.curve }
+    requires reading { i < length q.now.doses.now }
     ensures { result ≡ mean_at (checked q.now) s.now i }
 {
     let k = q.places.len();
     let from = q.groups[i] * k;
     let b = &s.effects[from..from + k];
-    q.curve.eval_mean_with_re(q.doses[i], s.values, q.places, b)
+    curve.eval_mean_with_re(q.doses[i], s.values, q.places, b)
 }
 
-// The rss. Each reading's curve is worked out once and kept in means, for the normal blocks.
+// The rss, on the problem's curve.
+#[inline(always)]
 #[tactic(auto, using(math::specs::laws::Loops::turns), unfolding(crate::specs::Penalized::rss_of))]
-pub fn evaluate(q: &NlmmProblem<'_>, s: &State, means: &mut [Mean; MAX_READINGS]) -> f64
+fn evaluate_on(
+    curve: Curve,
+    q: &NlmmProblem<'_>,
+    s: &State,
+    means: &mut [Mean; MAX_READINGS],
+) -> f64
+    requires { curve ≡ q.now.curve }
     ensures rss { result ≡ rss_of (checked q.now) s.now }
     ensures kept { Means (checked q.now) s.now means.new }
 {
+    // A copy: behind q each list would be looked up again at each reading, since the compiler takes means for a part of it.
+    let q = *q;
     let mut rss = 0.0;
     for i in 0..q.doses.len() {
-        let y = mean_at(q, s, i);
+        let y = mean_at(curve, &q, s, i);
         means[i] = y;
         let r = q.grams[i] - y.mu;
         rss += r * r;
     }
     rss
+}
+
+// The rss. Each reading's curve is worked out once and kept in means, for the normal blocks. Each curve has a loop of its own,
+// which is inlined with it: in one loop for all the curve would be asked for, and called, at each reading.
+pub fn evaluate(q: &NlmmProblem<'_>, s: &State, means: &mut [Mean; MAX_READINGS]) -> f64
+    ensures rss { result ≡ rss_of (checked q.now) s.now }
+    ensures kept { Means (checked q.now) s.now means.new }
+{
+    match q.curve {
+        Curve::Sslogis => evaluate_on(Curve::Sslogis, q, s, means),
+        Curve::Ssasymp => evaluate_on(Curve::Ssasymp, q, s, means),
+        Curve::Ssmicmen => evaluate_on(Curve::Ssmicmen, q, s, means),
+        Curve::Ssfpl => evaluate_on(Curve::Ssfpl, q, s, means),
+    }
 }
 
 // Each group's, one without readings too.

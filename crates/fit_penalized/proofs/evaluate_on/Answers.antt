@@ -4,7 +4,7 @@ use native.Mathlib.Omega.{arith}
 use lib.ListN.{length-set}
 use Rattle.std.proofs.Common.{◌<◌, ◌≢◌, length, get_or-set_other, get_or-set_same, below_more}
 use Rattle.math.specs.laws.Loops.{turns}
-use Rattle.fit_penalized.proofs.evaluate.Goals as goal
+use Rattle.fit_penalized.proofs.evaluate_on.Goals as goal
 
 pub loop-i-preserved : goal.loop-i-preserved
 loop-i-preserved c =

@@ -6,7 +6,7 @@ use Rattle.math.specs.Basic.{zero}
 use Rattle.math.specs.Loops.{iter}
 use Rattle.fit_refusals.specs.Given.{checked}
 use Rattle.fit_penalized.specs.Penalized.{mean_at, no_mean, square_at}
-use Rattle.fit_penalized.proofs.evaluate.Given as goal
+use Rattle.fit_penalized.proofs.evaluate_on.Given as goal
 
 abbrev pub invariant-loop-i : goal.invariant-loop-i
 invariant-loop-i l = record {
