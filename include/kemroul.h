@@ -28,9 +28,9 @@
  *
  * Stack, in bytes, the return address with it, without the arguments that the caller passes there: a bound over all
  * paths of the machine code; on the largest inputs as much was measured
- * (2026-11-27, x86-64, kit logic dac8208d650f15bf, gcc 12.2 and glibc 2.36 around it; `make stack` repeats both):
- *   kemroul_search 49,240    kemroul_criterion 48,104    kemroul_fit 48,088    kemroul_start 16,864
- *   kemroul_curve 264    kemroul_sqrt 8    kemroul_exp 8    kemroul_ln 8    kemroul_gh_order 8
+ * (2026-11-29, x86-64, kit logic dac8208d650f15bf, gcc 12.2 and glibc 2.36 around it; `make stack` repeats both):
+ *   kemroul_search 49,256    kemroul_criterion 48,120    kemroul_fit 48,104    kemroul_start 16,864
+ *   kemroul_curve 200    kemroul_sqrt 8    kemroul_exp 8    kemroul_ln 8    kemroul_gh_order 8
  * So 50 KiB are enough for any of them. Earlier archives needed at most 66,936 bytes (the same kit), and 60,296 (an older
  * kit, logic 097e4c862dff5811).
  *
