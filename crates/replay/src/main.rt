@@ -76,5 +76,5 @@ fn judge(name: &str, words: &mut Words<'_>) -> Option<bool> {
 }
 
 fn main(rt: HostRuntime) -> io::Result<()> {
-    replay_input(&rt, &OPERATIONS, judge)
+    replay_input(&rt, rt.stdin(), &OPERATIONS, judge)
 }

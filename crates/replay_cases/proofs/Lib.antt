@@ -3,3 +3,4 @@ pub mod Elements
 pub mod Saying
 pub mod Equality
 pub mod Counts
+mod Reading

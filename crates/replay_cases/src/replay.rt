@@ -2,12 +2,11 @@
 ghost use Rattle.std.specs.Prelude.{◌≡◌, ◌<◌, ◌≤◌, length, map, IfSome};
 ghost use Rattle.replay_cases.specs.Counts.{operations_of};
 
-use crate::lines::Lines;
+use crate::lines::{LONGEST, Lines};
 use crate::tally::{Operation, ROOM, Tally, Verdict, verdict_of};
 use crate::words::Words;
-use std::alloc::Global;
 use std::io;
-use std::io::{BufRead, BufReader};
+use std::io::Read;
 
 // The place of the operation of this name.
 fn place_of(operations: &[Operation], name: &[u8]) -> Option<usize>
@@ -36,9 +35,8 @@ fn verdict<J: Fn(&str, &mut Words<'_>) -> Option<bool>>(
 }
 
 // Each line of the input, judged and counted. What the counts come to, it does not state: what a judge answers is known of no line.
-pub fn replay<B: BufRead + Drop, J: Fn(&str, &mut Words<'_>) -> Option<bool>>(
-    alloc: Global,
-    input: B,
+pub fn replay<R: Read + Drop, J: Fn(&str, &mut Words<'_>) -> Option<bool>>(
+    input: R,
     names: &[&'static str],
     judge: J,
 ) -> Tally
@@ -47,30 +45,34 @@ pub fn replay<B: BufRead + Drop, J: Fn(&str, &mut Words<'_>) -> Option<bool>>(
     ensures names { map (λ o. o.name) (operations_of result) ≡ names.now }
 {
     let mut tally = Tally::new(names);
-    for (number, line) in (1..u64::MAX).zip(Lines::new(alloc, input)) {
-        match line {
-            Ok(line) => {
-                let verdict = verdict(&line, tally.operations(), &judge);
+    let mut buf = [0u8; LONGEST];
+    let mut lines = Lines::new(input, &mut buf);
+    // The range's end shows that the loop ends; no input has so many lines.
+    for number in 1..u64::MAX {
+        match lines.advance() {
+            Some(Ok(())) => {
+                let verdict = verdict(lines.line(), tally.operations(), &judge);
                 tally.count(number, verdict);
             }
-            Err(_) => tally.count_unread(),
+            Some(Err(_)) => tally.count_unread(),
+            None => break,
         }
     }
     tally
 }
 
-// A whole program: standard input replayed, and the tally printed. It states nothing: std's contracts say neither what the input
+// A whole program: its input replayed, and the tally printed. It states nothing: std's contracts say neither what the input
 // holds nor what was printed.
-pub fn replay_input<R: Input + Print + AllocGlobal, J: Fn(&str, &mut Words<'_>) -> Option<bool>>(
-    rt: &R,
+pub fn replay_input<P: Print, R: Read + Drop, J: Fn(&str, &mut Words<'_>) -> Option<bool>>(
+    rt: &P,
+    input: R,
     names: &[&'static str],
     judge: J,
 ) -> io::Result<()>
     requires judge { J.IsAlwaysCallable judge }
     requires names { length names.now ≤ ROOM }
 {
-    let input = BufReader::new(rt.alloc(), rt.reader())?;
-    let tally = replay(rt.alloc(), input, names, judge);
+    let tally = replay(input, names, judge);
     print!(rt; "{tally}")
 }
 
@@ -83,11 +85,10 @@ mod tests {
         words.says(1u64)
     }
 
-    // There is memory for each line.
     #[test]
     fn counts_each_line(rt: HostRuntime) {
         let input: &[u8] = b"a 1\nb 2\na\nc 1\na 1\nb 1";
-        let tally = replay(rt.alloc(), input, &["a", "b"], says_one);
+        let tally = replay(input, &["a", "b"], says_one);
         assert!(rt; tally.operations().len() == 2, "two operations");
         let a = tally.operations()[0];
         assert!(rt; a.lines == 2);

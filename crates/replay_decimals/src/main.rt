@@ -3,9 +3,9 @@
 #![tactic(auto)]
 
 use read_decimal::read_decimal;
-use replay_cases::lines::Lines;
+use replay_cases::lines::{LONGEST, Lines};
 use std::io;
-use std::io::{BufReader, Write};
+use std::io::Write;
 
 fn answer<W: Write>(out: &mut W, line: &[u8]) -> io::Result<()> {
     match read_decimal(line) {
@@ -16,11 +16,14 @@ fn answer<W: Write>(out: &mut W, line: &[u8]) -> io::Result<()> {
 
 fn main(rt: HostRuntime) -> io::Result<()> {
     let mut out = rt.stdout();
-    let input = BufReader::new(rt.alloc(), rt.stdin())?;
+    let mut buf = [0u8; LONGEST];
+    let mut lines = Lines::new(rt.stdin(), &mut buf);
     // The range's end shows that the loop ends; no input has so many lines.
-    for (_, line) in (1..u64::MAX).zip(Lines::new(rt.alloc(), input)) {
-        if let Ok(line) = line {
-            answer(&mut out, line.as_slice())?;
+    for _ in 0..u64::MAX {
+        match lines.advance() {
+            Some(Ok(())) => answer(&mut out, lines.line())?,
+            Some(Err(_)) => {}
+            None => break,
         }
     }
     Ok(())

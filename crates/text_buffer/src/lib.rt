@@ -25,7 +25,7 @@ impl Span {
     }
 }
 
-// A lent buffer and not a String: but for the replays (replay_cases) and refit's words of a system's error, nothing here has a heap.
+// A lent buffer and not a String: but for refit's words of a system's error, nothing here has a heap.
 // `at` lies past the buffer's end once something did not fit: what fills the buffer to its end has fitted. No model: one would
 // hide from whoever lent the buffer what it holds after the text has ended (`lent` of specs/laws/Text.antt).
 pub struct Text<'a> {
