@@ -53,6 +53,7 @@ pub fn judge_pair<F: Fn(usize, [[f64; 2]; 2]) -> Option<[[f64; 2]; 2]>>(
 }
 
 // For p curve values, k effects and so many groups.
+#[inline(never)]
 pub fn judge_direction(words: &mut Words<'_>) -> Option<bool> {
     let p = words.value()?;
     let k = words.value()?;

@@ -16,6 +16,7 @@ use replay_cases::lent::kept;
 use replay_cases::words::Words;
 
 // A problem without its theta, which `rest` judges by the rest of the line.
+#[inline(never)]
 pub fn judge_problem<R: Fn(&mut Words<'_>, Problem<'_>) -> Option<bool>>(
     words: &mut Words<'_>,
     rest: R,
