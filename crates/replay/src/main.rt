@@ -36,7 +36,7 @@ use math::exp::exp;
 use math::ln::ln;
 use math::sqrt::sqrt;
 use quadrature::orders::gh_order;
-use replay_cases::replay::replay_input;
+use replay_cases::replay::replay_and_print;
 use replay_cases::words::Words;
 use std::io;
 
@@ -76,5 +76,5 @@ fn judge(name: &str, words: &mut Words<'_>) -> Option<bool> {
 }
 
 fn main(rt: HostRuntime) -> io::Result<()> {
-    replay_input(&rt, rt.stdin(), &OPERATIONS, judge)
+    replay_and_print(&rt, rt.stdin(), &OPERATIONS, judge)
 }

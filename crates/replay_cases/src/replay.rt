@@ -35,7 +35,7 @@ fn verdict<J: Fn(&str, &mut Words<'_>) -> Option<bool>>(
 }
 
 // Each line of the input, judged and counted. What the counts come to, it does not state: what a judge answers is known of no line.
-pub fn replay<R: Read + Drop, J: Fn(&str, &mut Words<'_>) -> Option<bool>>(
+pub fn replay_lines<R: Read + Drop, J: Fn(&str, &mut Words<'_>) -> Option<bool>>(
     input: R,
     names: &[&'static str],
     judge: J,
@@ -44,7 +44,7 @@ pub fn replay<R: Read + Drop, J: Fn(&str, &mut Words<'_>) -> Option<bool>>(
     requires names { length names.now ≤ ROOM }
     ensures names { map (λ o. o.name) (operations_of result) ≡ names.now }
 {
-    let mut tally = Tally::new(names);
+    let mut tally = Tally::of_names(names);
     let mut buf = [0u8; LONGEST];
     let mut lines = Lines::new(input, &mut buf);
     // The range's end shows that the loop ends; no input has so many lines.
@@ -63,7 +63,7 @@ pub fn replay<R: Read + Drop, J: Fn(&str, &mut Words<'_>) -> Option<bool>>(
 
 // A whole program: its input replayed, and the tally printed. It states nothing: std's contracts say neither what the input
 // holds nor what was printed.
-pub fn replay_input<P: Print, R: Read + Drop, J: Fn(&str, &mut Words<'_>) -> Option<bool>>(
+pub fn replay_and_print<P: Print, R: Read + Drop, J: Fn(&str, &mut Words<'_>) -> Option<bool>>(
     rt: &P,
     input: R,
     names: &[&'static str],
@@ -72,7 +72,7 @@ pub fn replay_input<P: Print, R: Read + Drop, J: Fn(&str, &mut Words<'_>) -> Opt
     requires judge { J.IsAlwaysCallable judge }
     requires names { length names.now ≤ ROOM }
 {
-    let tally = replay(input, names, judge);
+    let tally = replay_lines(input, names, judge);
     print!(rt; "{tally}")
 }
 
@@ -88,7 +88,7 @@ mod tests {
     #[test]
     fn counts_each_line(rt: HostRuntime) {
         let input: &[u8] = b"a 1\nb 2\na\nc 1\na 1\nb 1";
-        let tally = replay(input, &["a", "b"], says_one);
+        let tally = replay_lines(input, &["a", "b"], says_one);
         assert!(rt; tally.operations().len() == 2, "two operations");
         let a = tally.operations()[0];
         assert!(rt; a.lines == 2);

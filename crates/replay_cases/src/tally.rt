@@ -77,7 +77,7 @@ impl fmt::Display for Operation {
     }
 }
 
-// The most operations of a tally. They stand in an array and no `Vec`, so that a tally is copied and beginning one can't fail. The
+// The most operations of a tally. They stand in an array and no `Vec`, so that a tally is copied and `of_names` can't fail. The
 // array's length is no const parameter: the kit proves nothing of one whose elements hold references, as the names are.
 pub const ROOM: usize = 16;
 
@@ -98,7 +98,7 @@ pub struct Tally {
 impl Tally {
     ghost use Rattle.replay_cases.specs.Counts.{operations_of, counts_of, no_lines, count_up, counts_after, is_malformed};
 
-    pub fn new(names: &[&'static str]) -> Self
+    pub fn of_names(names: &[&'static str]) -> Self
         requires { length names.now ≤ ROOM }
         ensures names { map (λ o. o.name) (operations_of result) ≡ names.now }
         ensures counts { map counts_of (operations_of result) ≡ replicate (length names.now) no_lines }
@@ -182,17 +182,17 @@ mod tests {
 
     #[test]
     fn begins_with_no_lines(rt: HostRuntime) {
-        let tally = Tally::new(&["a", "b", "c"]);
+        let tally = Tally::of_names(&["a", "b", "c"]);
         assert!(rt; tally.operations().len() == 3);
         assert!(rt; tally.unread == 0);
-        let none = Tally::new(&[]);
+        let none = Tally::of_names(&[]);
         assert!(rt; none.operations().is_empty());
     }
 
     // The first stays as it was.
     #[test]
     fn counts_on_in_a_copy(rt: HostRuntime) {
-        let first = Tally::new(&["a"]);
+        let first = Tally::of_names(&["a"]);
         let mut copy = first;
         copy.count(1, Verdict::Agrees(0));
         copy.count(2, Verdict::Malformed);

@@ -2,7 +2,7 @@
 use Rattle.std.proofs.Common.{◌≡◌, map, length, take, replicate}
 use Rattle.replay_cases.specs.Counts.{counts_of, no_lines}
 use Rattle.replay_cases.specs.declared.tally.TheConstants.{ROOM}
-use Rattle.replay_cases.proofs.tally.Tally.new.Given as goal
+use Rattle.replay_cases.proofs.tally.Tally.of_names.Given as goal
 
 abbrev pub invariant-loop-i : goal.invariant-loop-i
 invariant-loop-i l =
