@@ -1,12 +1,13 @@
 // Every line of an input, judged and counted.
-ghost use Rattle.std.specs.Prelude.{◌≡◌, ◌<◌, ◌≤◌, length, map, IfSome};
+ghost use Rattle.std.specs.Prelude.{◌≡◌, ◌<◌, ◌≤◌, length, map, IfSome, IfOk, IfErr};
 ghost use Rattle.replay_cases.specs.Counts.{operations_of};
 
 use crate::lines::{LONGEST, Lines};
 use crate::tally::{Operation, ROOM, Tally, Verdict, verdict_of};
 use crate::words::Words;
+use std::alloc::{AllocError, Global};
 use std::io;
-use std::io::Read;
+use std::io::{BufRead, Read};
 
 // The place of the operation of this name.
 fn place_of(operations: &[Operation], name: &[u8]) -> Option<usize>
@@ -61,6 +62,23 @@ pub fn replay_lines<R: Read + Drop, J: Fn(&str, &mut Words<'_>) -> Option<bool>>
     tally
 }
 
+// The same without a condition on the names: more than a tally has room for are refused. Nothing is taken from the allocator.
+pub fn replay<B: BufRead + Drop, J: Fn(&str, &mut Words<'_>) -> Option<bool>>(
+    alloc: Global,
+    input: B,
+    names: &[&'static str],
+    judge: J,
+) -> Result<Tally, AllocError>
+    requires { J.IsAlwaysCallable judge }
+    ensures names { IfOk result (λ t. map (λ o. o.name) (operations_of t) ≡ names.now) }
+    ensures refused { IfErr result (λ _. ROOM < length names.now) }
+{
+    if names.len() > ROOM {
+        return Err(AllocError);
+    }
+    Ok(replay_lines(input, names, judge))
+}
+
 // A whole program: its input replayed, and the tally printed. It states nothing: std's contracts say neither what the input
 // holds nor what was printed.
 pub fn replay_and_print<P: Print, R: Read + Drop, J: Fn(&str, &mut Words<'_>) -> Option<bool>>(
@@ -76,9 +94,25 @@ pub fn replay_and_print<P: Print, R: Read + Drop, J: Fn(&str, &mut Words<'_>) ->
     print!(rt; "{tally}")
 }
 
+// The same of standard input; too many names end it with an error. It states nothing either.
+pub fn replay_input<R: Input + Print + AllocGlobal, J: Fn(&str, &mut Words<'_>) -> Option<bool>>(
+    rt: &R,
+    names: &[&'static str],
+    judge: J,
+) -> io::Result<()>
+    requires { J.IsAlwaysCallable judge }
+{
+    let tally = replay(rt.alloc(), rt.reader(), names, judge)?;
+    print!(rt; "{tally}")
+}
+
 #[cfg(test)]
 mod tests {
     use super::*;
+    use std::alloc::{Alloc, Allocator};
+    use std::fmt::Display;
+    use std::io::{ErrorKind, Input, Print};
+    use std::test::Fail;
 
     // A judge of lines `NAME 1`.
     fn says_one(_name: &str, words: &mut Words<'_>) -> Option<bool> {
@@ -99,5 +133,79 @@ mod tests {
         assert!(rt; tally.malformed == 2);
         assert!(rt; tally.first_malformed == Some(3));
         assert!(rt; tally.unread == 1);
+    }
+
+    #[test]
+    fn counts_or_refuses(rt: HostRuntime) -> Result<(), Fail> {
+        let input: &[u8] = b"a 1\nb 2\na\n";
+        let tally = replay(rt.alloc(), input, &["a", "b"], says_one)?;
+        assert!(rt; tally.operations().len() == 2, "two operations");
+        let a = tally.operations()[0];
+        assert!(rt; a.agree == 1);
+        let b = tally.operations()[1];
+        assert!(rt; b.first_differs == Some(2));
+        assert!(rt; tally.malformed == 1);
+        assert!(rt; replay(rt.alloc(), input, &["a"; ROOM + 1], says_one).is_err());
+        Ok(())
+    }
+
+    // Its standard input is `a 1`, and it takes no other text than that input's tally.
+    #[derive(Drop)]
+    struct Console {
+        alloc: Global,
+    }
+
+    impl Alloc for Console {
+        type A = Global;
+
+        fn alloc(&self) -> Global {
+            self.alloc
+        }
+    }
+
+    impl Input for Console {
+        type Reader = &'static [u8];
+
+        fn read_line<A: Allocator + Clone>(&self, buf: &mut String<A>) -> io::Result<usize> {
+            self.reader().read_line(buf)
+        }
+
+        fn lines<A: Allocator>(&self, alloc: A) -> io::Lines<&'static [u8], A> {
+            self.reader().lines(alloc)
+        }
+
+        fn reader(&self) -> &'static [u8] {
+            b"a 1\n"
+        }
+    }
+
+    impl Print for Console {
+        fn print<D: Display + Drop>(&self, value: D) -> io::Result<()> {
+            let text = format!(in self.alloc; "{value}")?;
+            self.write_all(text.as_bytes())
+        }
+
+        fn println<D: Display + Drop>(&self, value: D) -> io::Result<()> {
+            self.print(value)
+        }
+
+        fn write_all(&self, bytes: &[u8]) -> io::Result<()> {
+            if bytes != b"a: 1 of 1 agree\nmalformed: 0\n".as_slice() {
+                return Err(io::Error::from(ErrorKind::InvalidData));
+            }
+            Ok(())
+        }
+    }
+
+    #[test]
+    fn prints_what_it_counts(rt: HostRuntime) -> Result<(), Fail> {
+        let console = Console { alloc: rt.alloc() };
+        replay_input(&console, &["a"], says_one)?;
+        replay_and_print(&console, console.reader(), &["a"], says_one)?;
+        let other = replay_input(&console, &["b"], says_one);
+        assert!(rt; other.is_err_and(|e| e.kind() == ErrorKind::InvalidData));
+        let refused = replay_input(&console, &["a"; ROOM + 1], says_one);
+        assert!(rt; refused.is_err_and(|e| e.kind() == ErrorKind::OutOfMemory));
+        Ok(())
     }
 }

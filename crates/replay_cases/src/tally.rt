@@ -1,9 +1,10 @@
 // What a replay counts and prints.
-ghost use Rattle.std.specs.Prelude.{◌≡◌, ◌≤◌, if◌then◌else◌, map, replicate, length, Some, None};
+ghost use Rattle.std.specs.Prelude.{◌≡◌, ◌≤◌, ◌<◌, if◌then◌else◌, map, replicate, length, Some, None, IfOk, IfErr};
 ghost use Rattle.std.specs.Option.{option_or};
 ghost use Rattle.replay_cases.specs.Tally.{verdict_of};
 ghost use Rattle.replay_cases.specs.declared.tally.TheConstants.{ROOM};
 
+use std::alloc::{AllocError, Global};
 use std::fmt;
 
 // What a line comes to: the operation's place, and whether the answers agree.
@@ -98,6 +99,22 @@ pub struct Tally {
 impl Tally {
     ghost use Rattle.replay_cases.specs.Counts.{operations_of, counts_of, no_lines, count_up, counts_after, is_malformed};
 
+    // More names than there is room for are refused. Nothing is taken from the allocator: a tally that is copied owns no memory.
+    pub fn new(alloc: Global, names: &[&'static str]) -> Result<Self, AllocError>
+        ensures names { IfOk result (λ t. map (λ o. o.name) (operations_of t) ≡ names.now) }
+        ensures counts { IfOk result (λ t. map counts_of (operations_of t) ≡ replicate (length names.now) no_lines) }
+        ensures malformed { IfOk result (λ t. t.malformed ≡ 0) }
+        ensures first { IfOk result (λ t. t.first_malformed ≡ None) }
+        ensures unread { IfOk result (λ t. t.unread ≡ 0) }
+        ensures refused { IfErr result (λ _. ROOM < length names.now) }
+    {
+        if names.len() > ROOM {
+            return Err(AllocError);
+        }
+        Ok(Tally::of_names(names))
+    }
+
+    // Of names that fit, and so it can't fail.
     pub fn of_names(names: &[&'static str]) -> Self
         requires { length names.now ≤ ROOM }
         ensures names { map (λ o. o.name) (operations_of result) ≡ names.now }
@@ -179,6 +196,7 @@ impl fmt::Display for Tally {
 #[cfg(test)]
 mod tests {
     use super::*;
+    use std::test::Fail;
 
     #[test]
     fn begins_with_no_lines(rt: HostRuntime) {
@@ -187,6 +205,17 @@ mod tests {
         assert!(rt; tally.unread == 0);
         let none = Tally::of_names(&[]);
         assert!(rt; none.operations().is_empty());
+    }
+
+    // There is room for none, and for as many names as `ROOM` says.
+    #[test]
+    fn begins_or_refuses(rt: HostRuntime) -> Result<(), Fail> {
+        let none = Tally::new(rt.alloc(), &[])?;
+        assert!(rt; none.operations().is_empty());
+        let most = Tally::new(rt.alloc(), &["a"; ROOM])?;
+        assert!(rt; most.operations().len() == 16);
+        assert!(rt; Tally::new(rt.alloc(), &["a"; ROOM + 1]).is_err());
+        Ok(())
     }
 
     // The first stays as it was.
