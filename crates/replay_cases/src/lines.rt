@@ -19,6 +19,14 @@ pub enum Fault {
     Unread,
 }
 
+impl From<io::Error> for Fault {
+    fn from(_e: io::Error) -> Fault
+        ensures { result ≡ Fault.Unread }
+    {
+        Fault::Unread
+    }
+}
+
 // Where the input stands.
 #[derive(Clone, Copy, Debug, PartialEq, Eq)]
 enum Place {
@@ -310,6 +318,23 @@ mod tests {
             let n = buf.len().min(1);
             self.bytes.read(&mut buf[..n])
         }
+    }
+
+    fn read_once<R: Read>(input: &mut R) -> Result<usize, Fault> {
+        let mut byte = [0; 1];
+        Ok(input.read(&mut byte)?)
+    }
+
+    #[test]
+    fn a_failed_read_is_unread(rt: HostRuntime) {
+        let mut input = Slow {
+            bytes: b"a",
+            interrupted: true,
+        };
+        assert!(rt; read_once(&mut input) == Ok(1));
+        assert!(rt; read_once(&mut input) == Err(Fault::Unread));
+        let e = io::Error::from(ErrorKind::ConnectionReset);
+        assert!(rt; Fault::from(e) == Fault::Unread);
     }
 
     #[test]
